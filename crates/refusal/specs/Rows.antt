@@ -43,3 +43,8 @@ Rule = ℕ × Bool
 abbrev pub first-row : {X : Type 0} → List Rule → X → Result X ℕ
 first-row [] answer = Ok answer
 first-row (rule ∷ rules) answer = cond (rule .1) (Err (rule .0)) (first-row rules answer)
+
+-- what stands after a call: the new where it was answered, the old where it was refused
+abbrev pub unless-refused : {X Y : Type 0} → Result X ℕ → Y → Y → Y
+unless-refused (Ok x) new old = new
+unless-refused (Err n) new old = old

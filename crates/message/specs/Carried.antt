@@ -1,0 +1,24 @@
+-- What carries what: a message carries itself, a pair what either part carries, an encryption what its content carries.
+-- A key is not carried by what is encrypted under it.
+use mathlib.Core.Path.{_≡_}
+use mathlib.Core.Logic.{_⊎_}
+use mathlib.Core.Bool.{Bool, _||_}
+use Rattle.message.specs.declared.stored.Operation.{Operation}
+use Rattle.message.specs.declared.stored.Operation.the-variants.{Pair, AsymmetricEncryption, SymmetricEncryption}
+use Rattle.message.specs.Message.{Message, symbol, inverse-key, compound}
+use Rattle.message.specs.Same.{same}
+
+abbrev pub Carried : Message → Message → Type 0
+Carried t (symbol s n) = t ≡ symbol s n
+Carried t (inverse-key n) = t ≡ inverse-key n
+Carried t (compound Pair x y) = (t ≡ compound Pair x y) ⊎ (Carried t x ⊎ Carried t y)
+Carried t (compound AsymmetricEncryption x k) = (t ≡ compound AsymmetricEncryption x k) ⊎ Carried t x
+Carried t (compound SymmetricEncryption x k) = (t ≡ compound SymmetricEncryption x k) ⊎ Carried t x
+
+-- the same as a test
+abbrev pub carries : Message → Message → Bool
+carries t (symbol s n) = same t (symbol s n)
+carries t (inverse-key n) = same t (inverse-key n)
+carries t (compound Pair x y) = same t (compound Pair x y) || (carries t x || carries t y)
+carries t (compound AsymmetricEncryption x k) = same t (compound AsymmetricEncryption x k) || carries t x
+carries t (compound SymmetricEncryption x k) = same t (compound SymmetricEncryption x k) || carries t x

@@ -1,0 +1,7 @@
+pub mod Message
+pub mod Same
+pub mod Carried
+pub mod Place
+pub mod Meaning
+pub mod Table
+pub mod Enter

@@ -1,0 +1,4 @@
+// Messages: the algebra of keys, data, tags, pairs and encryptions, and the table that numbers them.
+pub mod lookup;
+pub mod stored;
+pub mod table;

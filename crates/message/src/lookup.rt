@@ -1,0 +1,68 @@
+// Reading a table: its length, what stands at a number, and the number of what is stored already.
+ghost use Prim.Native.Nat.{ℕ, _<_, _≤_};
+ghost use mathlib.Core.Bool.{true};
+ghost use mathlib.Core.Path.{_≡_};
+ghost use lib.ListN.{length, getD};
+ghost use Rattle.std.specs.Options.{Cases};
+ghost use Rattle.message.specs.Meaning.{at, no-entry, reach, value};
+ghost use Rattle.message.specs.Message.{size};
+ghost use Rattle.message.specs.Table.{entries-of, messages-of, Numbered};
+use crate::stored::Entry;
+use crate::stored::Stored;
+use crate::stored::StoredPartialEq;
+use crate::table::Messages;
+
+// Whether two messages are stored alike.
+fn is_same(a: Stored, b: Stored) -> bool
+    ensures { λ r. ⌜ (r ≡ true → a ≡ b) × (a ≡ b → r ≡ true) ⌝ }
+{
+    a == b
+}
+
+impl Messages {
+    // How many messages stand.
+    pub fn len(&self) -> usize
+        ensures count { λ r. ⌜ r ≡ length (messages-of (now (self .entry))) ⌝ }
+        ensures numbered { λ _. ⌜ Numbered (messages-of (now (self .entry))) ⌝ }
+    {
+        self.entries.len()
+    }
+
+    // The message with this number: its parts have smaller numbers.
+    pub fn get(&self, number: u16) -> Option<Stored>
+        ensures { λ r. ⌜ Cases r (length (messages-of (now (self .entry))) ≤ number) (λ s. (number < length (messages-of (now (self .entry)))) × (value (messages-of (now (self .entry))) s ≡ at (messages-of (now (self .entry))) number) × (reach s ≤ number)) ⌝ }
+    {
+        match self.entry(number) {
+            Some(entry) => Some(entry.stored),
+            None => None,
+        }
+    }
+
+    // The size of the message with this number.
+    pub fn size(&self, number: u16) -> Option<u16>
+        ensures { λ r. ⌜ Cases r (length (messages-of (now (self .entry))) ≤ number) (λ n. (number < length (messages-of (now (self .entry)))) × (n ≡ size (at (messages-of (now (self .entry))) number))) ⌝ }
+    {
+        match self.entry(number) {
+            Some(entry) => Some(entry.size),
+            None => None,
+        }
+    }
+
+    pub(crate) fn entry(&self, number: u16) -> Option<Entry>
+        ensures { λ r. ⌜ Cases r (length (entries-of (now (self .entry))) ≤ number) (λ e. (number < length (entries-of (now (self .entry)))) × (e ≡ getD (entries-of (now (self .entry))) number no-entry)) ⌝ }
+    {
+        self.entries.get(number as usize).copied()
+    }
+
+    // The number of the entry that stores just this.
+    pub(crate) fn find(&self, stored: Stored) -> Option<u16>
+        ensures { λ r. ⌜ Cases r ((k : ℕ) → k < length (entries-of (now (self .entry))) → getD (entries-of (now (self .entry))) k no-entry .stored ≡ stored → ⊥) (λ n. (n < length (entries-of (now (self .entry)))) × (getD (entries-of (now (self .entry))) n no-entry .stored ≡ stored)) ⌝ }
+    {
+        for (i, entry) in self.entries.iter().enumerate() {
+            if is_same(entry.stored, stored) {
+                return Some(i as u16);
+            }
+        }
+        None
+    }
+}

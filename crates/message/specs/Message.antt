@@ -71,14 +71,14 @@ size (symbol s n) = 1
 size (inverse-key n) = 2
 size (compound o x y) = 1 + (size x + size y)
 
--- the second part of an operation is of the sort that it asks for: a pair asks for none
-abbrev pub key-fits : Operation → Message → Bool
-key-fits Pair k = true
-key-fits AsymmetricEncryption k = of-sort Asymmetric k
-key-fits SymmetricEncryption k = of-sort Symmetric k
+-- the second part of an operation may be of this sort: an encryption asks for a key of its own, a pair for nothing
+abbrev pub key-fits : Operation → Option Sort → Bool
+key-fits Pair s = true
+key-fits AsymmetricEncryption s = is-sort Asymmetric s
+key-fits SymmetricEncryption s = is-sort Symmetric s
 
 -- every encryption in the message is under a key of its sort
 abbrev pub well-sorted : Message → Bool
 well-sorted (symbol s n) = true
 well-sorted (inverse-key n) = true
-well-sorted (compound o x y) = key-fits o y && (well-sorted x && well-sorted y)
+well-sorted (compound o x y) = key-fits o (sort-of y) && (well-sorted x && well-sorted y)

@@ -10,7 +10,7 @@ use Rattle.message.specs.declared.stored.Entry.{Entry}
 use Rattle.message.specs.declared.stored.Operation.{Operation}
 use Rattle.message.specs.declared.table.Messages.{Messages}
 use Rattle.message.specs.Message.{Message, compound, size, well-sorted}
-use Rattle.message.specs.Meaning.{at, meanings}
+use Rattle.message.specs.Meaning.{at, meanings, reach, value}
 
 abbrev pub entries-of : Messages → List Entry
 entries-of t = vec-items (t .entries)
@@ -29,3 +29,11 @@ pub record Numbered (ms : List Message) : Type 0 where
       (i : ℕ) × (j : ℕ) × (i < k) × (j < k) × (at ms i ≡ x) × (at ms j ≡ y)
   pub small : (k : ℕ) → k < length ms → size (at ms k) ≤ 255
   pub sorted : (k : ℕ) → k < length ms → well-sorted (at ms k) ≡ true
+
+-- the entry with the number n: it means that message, over parts with smaller numbers, and has its size
+pub record Holds (ms : List Message) (n : ℕ) (e : Entry) : Type 0 where
+  pub there : n < length ms
+  pub means : value ms (e .stored) ≡ at ms n
+  pub older : reach (e .stored) ≤ n
+  pub sized : e .size ≡ size (at ms n)
+  pub small : e .size ≤ 255

@@ -6,7 +6,7 @@ ghost use lib.ListN.{length, getD};
 ghost use Rattle.std.specs.Options.{Cases};
 ghost use Rattle.message.specs.Meaning.{at, no-entry, reach, value};
 ghost use Rattle.message.specs.Message.{size};
-ghost use Rattle.message.specs.Table.{entries-of, messages-of, Numbered};
+ghost use Rattle.message.specs.Table.{Holds, Numbered, entries-of, messages-of};
 use crate::stored::Entry;
 use crate::stored::Stored;
 use crate::stored::StoredPartialEq;
@@ -49,7 +49,7 @@ impl Messages {
     }
 
     pub(crate) fn entry(&self, number: u16) -> Option<Entry>
-        ensures { λ r. ⌜ Cases r (length (entries-of (now (self .entry))) ≤ number) (λ e. (number < length (entries-of (now (self .entry)))) × (e ≡ getD (entries-of (now (self .entry))) number no-entry)) ⌝ }
+        ensures { λ r. ⌜ Cases r (length (messages-of (now (self .entry))) ≤ number) (Holds (messages-of (now (self .entry))) number) ⌝ }
     {
         self.entries.get(number as usize).copied()
     }

@@ -5,3 +5,4 @@ pub mod Place
 pub mod Meaning
 pub mod Table
 pub mod Enter
+pub mod Read

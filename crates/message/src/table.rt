@@ -4,6 +4,12 @@ ghost use Rattle.std.specs.Of.Vec.{vec-cap, vec-items, vec-len};
 ghost use Rattle.message.specs.Meaning.{Distinct, InOrder, Sized, Small, WellSorted, meanings};
 use crate::stored::Entry;
 
+// How many messages a table holds at most.
+pub const MESSAGE_LIMIT: usize = 1024;
+
+// How large a message may be.
+pub const SIZE_LIMIT: u16 = 255;
+
 #[derive(Drop)]
 pub struct Messages {
     pub(crate) entries: Vec<Entry>,

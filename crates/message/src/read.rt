@@ -1,0 +1,91 @@
+// The arguments of `enter`: the message that they name, or the first row that fits them.
+ghost use Prim.Native.Nat.{ℕ};
+ghost use mathlib.Core.List.{List};
+ghost use Rattle.message.specs.Message.{Message as Tree, inverse-form, operation-form, symbol-form};
+ghost use Rattle.message.specs.Read.{Reads};
+ghost use Rattle.message.specs.Table.{messages-of};
+use crate::stored::Entry;
+use crate::stored::Operation;
+use crate::stored::Stored;
+use crate::stored::Symbol;
+use crate::table::Messages;
+use crate::table::SIZE_LIMIT;
+use refusal::Refusal;
+
+// An atom or tag, by its own number.
+fn symbol(symbol: Symbol, x: u16, y: u16) -> Result<Entry, Refusal>
+    ensures { λ r. ⌜ ((ms : List Tree) → Reads ms (symbol-form symbol) x y r) ⌝ }
+{
+    if y != 0 {
+        return Err(Refusal::NotListed);
+    }
+    Ok(Entry {
+        stored: Stored::Symbol(symbol, x),
+        size: 1,
+    })
+}
+
+impl Messages {
+    // The inverse of a key: that of an inverse is the key inside.
+    fn inverse(&self, x: u16, y: u16) -> Result<Entry, Refusal>
+        ensures { λ r. ⌜ Reads (messages-of (now (self .entry))) inverse-form x y r ⌝ }
+    {
+        if y != 0 {
+            return Err(Refusal::NotListed);
+        }
+        let Some(key) = self.get(x) else {
+            return Err(Refusal::NotThere);
+        };
+        match key {
+            Stored::Symbol(Symbol::AsymmetricKey, n) => Ok(Entry {
+                stored: Stored::Inverse(n),
+                size: 2,
+            }),
+            Stored::Inverse(n) => Ok(Entry {
+                stored: Stored::Symbol(Symbol::AsymmetricKey, n),
+                size: 1,
+            }),
+            _ => Err(Refusal::WrongSort),
+        }
+    }
+
+    // Two messages of the table put together.
+    fn compound(&self, operation: Operation, x: u16, y: u16) -> Result<Entry, Refusal>
+        ensures { λ r. ⌜ Reads (messages-of (now (self .entry))) (operation-form operation) x y r ⌝ }
+    {
+        let Some(first) = self.entry(x) else {
+            return Err(Refusal::NotThere);
+        };
+        let Some(second) = self.entry(y) else {
+            return Err(Refusal::NotThere);
+        };
+        if !operation.key_fits(second.stored.sort()) {
+            return Err(Refusal::WrongSort);
+        }
+        let size = 1 + first.size + second.size;
+        if size > SIZE_LIMIT {
+            return Err(Refusal::OverLimit);
+        }
+        Ok(Entry {
+            stored: Stored::Compound(operation, x, y),
+            size,
+        })
+    }
+
+    // The message that a form and its operands name.
+    pub(crate) fn read(&self, form: u16, x: u16, y: u16) -> Result<Entry, Refusal>
+        ensures { λ r. ⌜ Reads (messages-of (now (self .entry))) form x y r ⌝ }
+    {
+        match form {
+            1 => symbol(Symbol::AsymmetricKey, x, y),
+            2 => symbol(Symbol::SymmetricKey, x, y),
+            3 => symbol(Symbol::Datum, x, y),
+            4 => symbol(Symbol::Tag, x, y),
+            5 => self.inverse(x, y),
+            6 => self.compound(Operation::Pair, x, y),
+            7 => self.compound(Operation::AsymmetricEncryption, x, y),
+            8 => self.compound(Operation::SymmetricEncryption, x, y),
+            _ => Err(Refusal::NotListed),
+        }
+    }
+}

@@ -10,7 +10,7 @@ use Rattle.message.specs.declared.stored.Stored.the-variants.{Symbol, Inverse,
 use Rattle.message.specs.declared.stored.Entry.{Entry}
 use Rattle.message.specs.declared.table.Messages.{Messages}
 use Rattle.message.specs.Message.{Message, symbol, inverse-key, compound}
-use Rattle.message.specs.Meaning.{at, value, meanings, reach, no-entry, InOrder}
+use Rattle.message.specs.Meaning.{at, value, meanings, reach, no-entry, InOrder, Small, Distinct, WellSorted}
 use Rattle.message.specs.Table.{entries-of, messages-of, Numbered}
 use Rattle.message.proofs.Meanings.{length-meanings, meaning-at}
 
@@ -21,16 +21,22 @@ parts-of ms (Symbol s n) k o x y h e = absurd (let z : _≡_ {A = ℕ} 0 1 = cc 
 parts-of ms (Inverse n) k o x y h e = absurd (let z : _≡_ {A = ℕ} 0 1 = cc in omega arith)
 parts-of ms (Compound p i j) k o x y h e = (i, j, omega arith, omega arith, cc, cc)
 
-pub numbered : (t : Messages) → Numbered (messages-of t)
-numbered t = record
-  { few = let h = t .few in let l = t .entries .ok .0 in omega (arith, long)
-  ; once = λ i j hi hj. (ap (at (messages-of t)), λ e. t .once i j (hi, hj, e))
-  ; parts = λ k o x y h e.
-      let l : k < length (entries-of t) = omega (arith, long) in
-      parts-of (messages-of t) (getD (entries-of t) k no-entry .stored) k o x y (t .ordered k l) (sym (meaning-at (entries-of t) k (t .ordered) l) ∙ e)
-  ; small = t .small
-  ; sorted = t .sorted
-  }
+pub numbered-by : (es : List Entry) → length es ≤ 1024 → InOrder es → Small (meanings es) → Distinct (meanings es) → WellSorted (meanings es) → Numbered (meanings es)
+numbered-by es few ordered small once sorted = record {
+  few = omega (arith, long);
+  once = λ i j hi hj. (ap (at (meanings es)), λ e. once i j (hi, hj, e));
+  parts = λ k o x y h e.
+      let l : k < length es = omega (arith, long) in
+      parts-of (meanings es) (getD es k no-entry .stored) k o x y (ordered k l) (sym (meaning-at es k ordered l) ∙ e);
+  small = small;
+  sorted = sorted;
+}
   where
-    long : length (messages-of t) ≡ length (entries-of t)
-    long = length-meanings (entries-of t)
+    long : length (meanings es) ≡ length es
+    long = length-meanings es
+
+pub numbered : (t : Messages) → Numbered (messages-of t)
+numbered t =
+    let h = t .few in
+    let l = t .entries .ok .0 in
+    numbered-by (entries-of t) (omega arith) (t .ordered) (t .small) (t .once) (t .sorted)

@@ -10,13 +10,14 @@ use Rattle.message.proofs.table.Messages.find.Needs as need
 
 pub returns-then-is-same : need.returns-then-is-same
 returns-then-is-same c =
-    let items = c .deref-entry-items .ensures .value in
-    ( omega (arith, c .loop-i-test .taken, ap length items)
-    , ap (λ (es : List Entry). getD es (c .loop-i .i) no-entry .stored) (sym items) ∙ c .is-same .ensures .0 (c .if-is-same .taken) )
+    let items = c .deref-entry-items .ensures .value in (
+      omega (arith, c .loop-i-test .taken, ap length items),
+      ap (λ (es : List Entry). getD es (c .loop-i .i) no-entry .stored) (sym items) ∙ c .is-same .ensures .0 (c .if-is-same .taken),
+    )
 
 pub loop-i-again : need.loop-i-again
 loop-i-again c =
     let items = c .deref-entry-items .ensures .value in
     below-more _ _ (c .loop-i .inv) (λ e.
-      let t = c .is-same .ensures .1 (ap (λ (es : List Entry). getD es (c .loop-i .i) no-entry .stored) items ∙ e) in
-      absurd (false≢true (sym (c .if-is-same .left) ∙ t)))
+    let t = c .is-same .ensures .1 (ap (λ (es : List Entry). getD es (c .loop-i .i) no-entry .stored) items ∙ e) in
+    absurd (false≢true (sym (c .if-is-same .left) ∙ t)))

@@ -5,3 +5,4 @@ pub mod Places
 pub mod Entering
 pub mod Growing
 pub mod Searched
+pub mod Carries

@@ -1,11 +1,17 @@
 -- What carries what: a message carries itself, a pair what either part carries, an encryption what its content carries.
 -- A key is not carried by what is encrypted under it.
+use Prim.Native.Nat.{ℕ, _<_, _≤_}
 use mathlib.Core.Path.{_≡_}
-use mathlib.Core.Logic.{_⊎_}
-use mathlib.Core.Bool.{Bool, _||_}
+use mathlib.Core.Logic.{_⊎_, _↔_}
+use mathlib.Core.Bool.{Bool, true, _||_}
+use mathlib.Core.List.{List}
+use lib.ListN.{length}
+use Rattle.std.specs.declared.option.Option.{Option}
+use Rattle.std.specs.declared.option.Option.the-variants.{Some, None}
 use Rattle.message.specs.declared.stored.Operation.{Operation}
 use Rattle.message.specs.declared.stored.Operation.the-variants.{Pair, AsymmetricEncryption, SymmetricEncryption}
 use Rattle.message.specs.Message.{Message, symbol, inverse-key, compound}
+use Rattle.message.specs.Meaning.{at}
 use Rattle.message.specs.Same.{same}
 
 abbrev pub Carried : Message → Message → Type 0
@@ -22,3 +28,13 @@ carries t (inverse-key n) = same t (inverse-key n)
 carries t (compound Pair x y) = same t (compound Pair x y) || (carries t x || carries t y)
 carries t (compound AsymmetricEncryption x k) = same t (compound AsymmetricEncryption x k) || carries t x
 carries t (compound SymmetricEncryption x k) = same t (compound SymmetricEncryption x k) || carries t x
+
+-- the test is true exactly where the relation holds
+pub record Tells (t m : Message) (answer : Bool) : Type 0 where
+  pub test : answer ≡ carries t m
+  pub relation : (answer ≡ true) ↔ Carried t m
+
+-- the same by numbers: nothing is answered where one of them is no message's
+abbrev pub CarriedBy : List Message → ℕ → ℕ → Option Bool → Type 0
+CarriedBy ms inner outer None = (length ms ≤ inner) ⊎ (length ms ≤ outer)
+CarriedBy ms inner outer (Some answer) = (inner < length ms) × (outer < length ms) × Tells (at ms inner) (at ms outer) answer

@@ -1,8 +1,8 @@
 pub mod Message
 pub mod Same
-pub mod Carried
 pub mod Place
 pub mod Meaning
+pub mod Carried
 pub mod Table
 pub mod Enter
 pub mod Read

@@ -1,0 +1,45 @@
+// Whether a message of the table is carried by another.
+ghost use Prim.Native.Nat.{_<_};
+ghost use mathlib.Core.Path.{_≡_};
+ghost use lib.ListN.{length};
+ghost use Rattle.message.specs.Carried.{CarriedBy, carries};
+ghost use Rattle.message.specs.Meaning.{at};
+ghost use Rattle.message.specs.Table.{messages-of};
+use crate::stored::Operation;
+use crate::stored::Stored;
+use crate::table::Messages;
+
+impl Messages {
+    // Whether the message `outer` carries the message `inner`; nothing where one of them is not there.
+    pub fn carried(&self, inner: u16, outer: u16) -> Option<bool>
+        ensures { λ r. ⌜ CarriedBy (messages-of (now (self .entry))) inner outer r ⌝ }
+    {
+        let count = self.len();
+        if inner as usize >= count || outer as usize >= count {
+            return None;
+        }
+        Some(self.is_carried(inner, outer))
+    }
+
+    fn is_carried(&self, inner: u16, outer: u16) -> bool
+        requires inner { ⌜ inner < length (messages-of (now self)) ⌝ }
+        requires outer { ⌜ outer < length (messages-of (now self)) ⌝ }
+        ensures { λ r. ⌜ r ≡ carries (at (messages-of (now (self .entry))) inner) (at (messages-of (now (self .entry))) outer) ⌝ }
+    {
+        if inner == outer {
+            return true;
+        }
+        let Some(stored) = self.get(outer) else {
+            return false;
+        };
+        match stored {
+            Stored::Symbol(..) | Stored::Inverse(_) => false,
+            Stored::Compound(operation, x, y) => match operation {
+                Operation::Pair => self.is_carried(inner, x) || self.is_carried(inner, y),
+                Operation::AsymmetricEncryption | Operation::SymmetricEncryption => {
+                    self.is_carried(inner, x)
+                }
+            },
+        }
+    }
+}

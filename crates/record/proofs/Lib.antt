@@ -1,0 +1,4 @@
+mod Frames
+mod Places
+mod Partitions
+mod Readings

@@ -1,0 +1,4 @@
+pub mod Frame
+pub mod Partition
+pub mod Reads
+pub mod Fields

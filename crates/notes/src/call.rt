@@ -1,0 +1,50 @@
+// The calls that records stand for.
+use record::Record;
+use refusal::Refusal;
+use std::fmt;
+
+// The kind of a record that enters a message.
+const ENTER: u16 = 1;
+
+#[derive(Clone, Copy)]
+pub enum Call {
+    Enter { form: u16, x: u16, y: u16 },
+}
+
+impl Call {
+    // The call of a record. A kind that no call has, or another number of fields than the call's, is no call.
+    pub(crate) fn read(record: &Record<'_>) -> Result<Call, Refusal> {
+        if record.kind != ENTER {
+            return Err(Refusal::NotARecord);
+        }
+        let Some(fields) = record.fields::<3>() else {
+            return Err(Refusal::NotARecord);
+        };
+        let [form, x, y] = fields;
+        Ok(Call::Enter { form, x, y })
+    }
+}
+
+pub impl fmt::Display for Call as CallDisplay {
+    // In words where the form is listed and its unused field is 0, and else by the numbers.
+    fn fmt<W: fmt::Write>(&self, f: &mut fmt::Formatter<W>) -> fmt::Result {
+        let Call::Enter { form, x, y } = *self;
+        match (form, y) {
+            (1, 0) => write!(f, "enter asymmetric key {x}"),
+            (2, 0) => write!(f, "enter symmetric key {x}"),
+            (3, 0) => write!(f, "enter data {x}"),
+            (4, 0) => write!(f, "enter tag {x}"),
+            (5, 0) => write!(f, "enter the inverse of message {x}"),
+            (6, _) => write!(f, "enter the pair of messages {x} and {y}"),
+            (7, _) => write!(
+                f,
+                "enter message {x} encrypted under asymmetric key message {y}"
+            ),
+            (8, _) => write!(
+                f,
+                "enter message {x} encrypted under symmetric key message {y}"
+            ),
+            _ => write!(f, "enter form {form}, x {x}, y {y}"),
+        }
+    }
+}

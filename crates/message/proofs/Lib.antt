@@ -5,3 +5,5 @@ pub mod Places
 pub mod Entering
 pub mod Growing
 pub mod Searched
+pub mod Terms
+pub mod Carrying

@@ -6,3 +6,5 @@ pub mod Entering
 pub mod Growing
 pub mod Searched
 pub mod Carries
+pub mod Carrying
+pub mod Terms

@@ -6,3 +6,5 @@ pub mod Carried
 pub mod Table
 pub mod Enter
 pub mod Read
+pub mod Terms
+pub mod Carrying

@@ -17,6 +17,7 @@ use Rattle.message.specs.declared.stored.Operation.the-variants.{Pair, Asymmet
 use Rattle.message.specs.Message.{Message, symbol, inverse-key, compound}
 use Rattle.message.specs.Same.{same, same-true, true-same}
 use Rattle.message.specs.Carried.{Carried, carries, Tells}
+use Rattle.message.proofs.Carrying.{carried-itself}
 
 -- a message or a part of it: what an encryption or a pair adds to the test
 joined : {P Q : Type 0} (a b : Bool) → (a ≡ true → P) → (b ≡ true → Q) → (a || b) ≡ true → P ⊎ Q
@@ -47,13 +48,6 @@ tells t m answer is = record {
   test = is;
   relation = (λ e. carries-carried t m (sym is ∙ e), λ c. is ∙ carried-carries t m c);
 }
-
-itself : (m : Message) → carries m m ≡ true
-itself (symbol s n) = true-same _ _ refl
-itself (inverse-key n) = true-same _ _ refl
-itself (compound Pair x y) = or-left _ _ (true-same _ _ refl)
-itself (compound AsymmetricEncryption x k) = or-left _ _ (true-same _ _ refl)
-itself (compound SymmetricEncryption x k) = or-left _ _ (true-same _ _ refl)
 
 -- what carries one message of a table by its parts: nothing does by what is no pair or encryption
 abbrev pub by-parts : (ms : List Message) (t : Message) (s : Stored) → Bool
@@ -92,7 +86,7 @@ not-same {m} {n} apart = by (same m n) refl
 -- by numbers
 module _ (t : Messages) (inner outer : ℕ) (hi : inner < length (messages-of t)) (ho : outer < length (messages-of t)) where
   pub carries-same : inner ≡ outer → true ≡ carries (at (messages-of t) inner) (at (messages-of t) outer)
-  carries-same e = sym (ap (λ (n : ℕ). carries (at (messages-of t) n) (at (messages-of t) outer)) e ∙ itself (at (messages-of t) outer))
+  carries-same e = sym (ap (λ (n : ℕ). carries (at (messages-of t) n) (at (messages-of t) outer)) e ∙ carried-carries (at (messages-of t) outer) (at (messages-of t) outer) (carried-itself (at (messages-of t) outer)))
 
   pub carries-apart : (inner ≡ outer → ⊥) → (s : Stored) → value (messages-of t) s ≡ at (messages-of t) outer →
       carries (at (messages-of t) inner) (at (messages-of t) outer) ≡ by-parts (messages-of t) (at (messages-of t) inner) s

@@ -10,7 +10,7 @@ use Rattle.message.specs.Message.{Message, symbol, inverse-key, compound, size
 use Rattle.message.specs.Carried.{Carried}
 use Rattle.message.specs.Carrying.{Laws, Carrying}
 
-carried-itself : (m : Message) → Carried m m
+pub carried-itself : (m : Message) → Carried m m
 carried-itself (symbol s n) = refl
 carried-itself (inverse-key n) = refl
 carried-itself (compound Pair x y) = inl refl

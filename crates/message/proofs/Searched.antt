@@ -15,6 +15,15 @@ use Rattle.message.specs.Read.{Names}
 use Rattle.message.proofs.Meanings.{length-meanings, meaning-at, meanings-push}
 use Rattle.message.proofs.Growing.{ordered-push, sized-push, small-push, distinct-push, sorted-push, value-injective}
 
+-- entries that mean these messages and have the facts of a table
+pub record Grown (ms : List Message) (es : List Entry) : Type 0 where
+  pub means : meanings es ≡ ms
+  pub ordered : InOrder es
+  pub sized : Sized es
+  pub small : Small (meanings es)
+  pub once : Distinct (meanings es)
+  pub sorted : WellSorted (meanings es)
+
 module _ (t : Messages) (form x y : ℕ) (e : Entry) (N : Names (messages-of t) form x y e) where
   long : length (messages-of t) ≡ length (entries-of t)
   long = length-meanings (entries-of t)
@@ -29,22 +38,15 @@ module _ (t : Messages) (form x y : ℕ) (e : Entry) (N : Names (messages-of t) 
         let old = t .ordered k l in
         none k l (value-injective (messages-of t) _ (e .stored) (t .once) (omega arith) (N .older) (sym (meaning-at (entries-of t) k (t .ordered) l) ∙ (is ∙ sym (N .means))))
 
-    -- with the entry at the end, the table keeps its facts
-    module _ (es : List Entry) (pushed : es ≡ entries-of t ++ e ∷ []) where
-      pub means-after : meanings es ≡ messages-of t ++ named (messages-of t) form x y ∷ []
-      means-after = ap meanings pushed ∙ (meanings-push (entries-of t) e ∙ ap (λ (m : Message). messages-of t ++ m ∷ []) (N .means))
-
-      pub ordered-after : InOrder es
-      ordered-after = subst InOrder (sym pushed) (ordered-push (entries-of t) e (t .ordered) (let o = N .older in omega (arith, long)))
-
-      pub sized-after : Sized es
-      sized-after = subst Sized (sym pushed) (sized-push (entries-of t) e (t .sized) (N .sized ∙ ap size (sym (N .means))))
-
-      pub small-after : Small (meanings es)
-      small-after = subst Small (sym means-after) (small-push (messages-of t) _ (t .small) (let s = N .sized in let l = N .small in omega arith))
-
-      pub once-after : Distinct (meanings es)
-      once-after = subst Distinct (sym means-after) (distinct-push (messages-of t) _ (t .once) none-means)
-
-      pub sorted-after : WellSorted (meanings es)
-      sorted-after = subst WellSorted (sym means-after) (sorted-push (messages-of t) _ (t .sorted) (N .sorted (t .sorted)))
+    pub grown : (es : List Entry) → es ≡ entries-of t ++ e ∷ [] → Grown (messages-of t ++ named (messages-of t) form x y ∷ []) es
+    grown es pushed = record {
+      means = means;
+      ordered = subst InOrder (sym pushed) (ordered-push (entries-of t) e (t .ordered) (let o = N .older in omega (arith, long)));
+      sized = subst Sized (sym pushed) (sized-push (entries-of t) e (t .sized) (N .sized ∙ ap size (sym (N .means))));
+      small = subst Small (sym means) (small-push (messages-of t) _ (t .small) (let s = N .sized in let l = N .small in omega arith));
+      once = subst Distinct (sym means) (distinct-push (messages-of t) _ (t .once) none-means);
+      sorted = subst WellSorted (sym means) (sorted-push (messages-of t) _ (t .sorted) (N .sorted (t .sorted)));
+    }
+      where
+        means : meanings es ≡ messages-of t ++ named (messages-of t) form x y ∷ []
+        means = ap meanings pushed ∙ (meanings-push (entries-of t) e ∙ ap (λ (m : Message). messages-of t ++ m ∷ []) (N .means))

@@ -3,6 +3,7 @@ ghost use Prim.Native.Nat.{_<_};
 ghost use mathlib.Core.Path.{_≡_};
 ghost use lib.ListN.{length};
 ghost use Rattle.message.specs.Carried.{CarriedBy, carries};
+ghost use Rattle.message.specs.Carrying.{Carrying};
 ghost use Rattle.message.specs.Meaning.{at};
 ghost use Rattle.message.specs.Table.{messages-of};
 use crate::stored::Operation;
@@ -12,7 +13,8 @@ use crate::table::Messages;
 impl Messages {
     // Whether the message `outer` carries the message `inner`; nothing where one of them is not there.
     pub fn carried(&self, inner: u16, outer: u16) -> Option<bool>
-        ensures { λ r. ⌜ CarriedBy (messages-of (now (self .entry))) inner outer r ⌝ }
+        ensures answer { λ r. ⌜ CarriedBy (messages-of (now (self .entry))) inner outer r ⌝ }
+        ensures laws { λ _. ⌜ Carrying ⌝ }
     {
         let count = self.len();
         if inner as usize >= count || outer as usize >= count {

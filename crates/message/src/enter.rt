@@ -4,6 +4,7 @@ ghost use mathlib.Core.Path.{_≡_};
 ghost use Rattle.std.specs.Vec.{made};
 ghost use Rattle.message.specs.Enter.{Entered};
 ghost use Rattle.message.specs.Table.{Numbered, messages-of};
+ghost use Rattle.message.specs.Terms.{Algebra};
 use crate::table::MESSAGE_LIMIT;
 use crate::table::Messages;
 use refusal::Refusal;
@@ -20,9 +21,11 @@ impl Messages {
     }
 
     // The number of the message that the form and its operands name: the old one where an equal message stands.
+    // Messages are equal as the algebra has it: as terms, up to the inverse of an inverse being the term inside.
     pub fn enter(&mut self, form: u16, x: u16, y: u16) -> Result<u16, Refusal>
         ensures entered { λ r. ⌜ Entered (messages-of (now (self .entry))) form x y r (messages-of (now (self .exit))) ⌝ }
         ensures numbered { λ _. ⌜ Numbered (messages-of (now (self .exit))) ⌝ }
+        ensures algebra { λ _. ⌜ Algebra ⌝ }
     {
         let entry = self.read(form, x, y)?;
         if let Some(number) = self.find(entry.stored) {

@@ -1,7 +1,6 @@
 // Messages: the algebra of keys, data, tags, pairs and encryptions, and the table that numbers them.
 pub mod carried;
 pub mod enter;
-pub mod laws;
 pub mod lookup;
 pub(crate) mod read;
 pub mod sorts;

@@ -17,7 +17,8 @@ use Rattle.message.proofs.Entering.{refused, found, over, added}
 use Rattle.message.proofs.Meanings.{length-meanings}
 use Rattle.message.specs.Meaning.{meanings}
 use Rattle.message.proofs.Numbered.{numbered, numbered-by}
-use Rattle.message.proofs.Searched.{found-means, none-means, means-after, ordered-after, sized-after, small-after, once-after, sorted-after}
+use Rattle.message.proofs.Searched.{found-means, none-means, grown}
+use Rattle.message.proofs.Terms.{algebra}
 use Rattle.message.proofs.table.Messages.enter.Needs as need
 
 pub returns-in-Break-entry : need.returns-in-Break-entry
@@ -30,6 +31,7 @@ returns-in-Break-entry c =
           subst (λ (r : Result ℕ Refusal). Entered (messages-of t) (c .args .form) (c .args .x) (c .args .y) r (messages-of t))
           (sym (p .1 ∙ ap {B = Result ℕ Refusal} Err (p .2))) (refused (messages-of t) (c .args .form) (c .args .x) (c .args .y) _ q);
       numbered = numbered t;
+      algebra = algebra;
     }
 
 pub returns-in-Some : need.returns-in-Some
@@ -42,6 +44,7 @@ returns-in-Some c =
       entered = found (messages-of t) (c .args .form) (c .args .x) (c .args .y) _ N (c .in-Some .number) (t .once) (omega (arith, f .0, l))
           (found-means t (c .args .form) (c .args .x) (c .args .y) _ N (c .in-Some .number) (f .0) (f .1));
       numbered = numbered t;
+      algebra = algebra;
     }
 
 pub returns-then-number-ge-MESSAGE-LIMIT : need.returns-then-number-ge-MESSAGE-LIMIT
@@ -54,34 +57,17 @@ returns-then-number-ge-MESSAGE-LIMIT c =
     record {
       entered = over (messages-of t) (c .args .form) (c .args .x) (c .args .y) _ N none (omega (arith, l, n, c .len-number .ensures, c .if-number-ge-MESSAGE-LIMIT .taken));
       numbered = numbered t;
+      algebra = algebra;
     }
 
 pub ghost-self : need.ghost-self
 ghost-self c =
     let t = c .args .self .now in
-    let N = c .in-Continue-entry .ensures tt in
-    let none = c .in-rest .ensures tt in
-    let es = vec-items (c .push-reserved .last .self) in
-    let pushed = c .push-reserved .ensures .items in (
+    let G = grown t (c .args .form) (c .args .x) (c .args .y) _ (c .in-Continue-entry .ensures tt) (c .in-rest .ensures tt) (vec-items (c .push-reserved .last .self)) (c .push-reserved .ensures .items) in (
       omega (arith, c .push-reserved .ensures .capacity, t .room),
       (
         omega (arith, c .push-reserved .ensures .len, c .len-number .ensures, c .if-number-ge-MESSAGE-LIMIT .left),
-        (
-          ordered-after t (c .args .form) (c .args .x) (c .args .y) _ N none es pushed,
-          (
-            sized-after t (c .args .form) (c .args .x) (c .args .y) _ N none es pushed,
-            (
-              small-after t (c .args .form) (c .args .x) (c .args .y) _ N none es pushed,
-              (
-                once-after t (c .args .form) (c .args .x) (c .args .y) _ N none es pushed,
-                (
-                  sorted-after t (c .args .form) (c .args .x) (c .args .y) _ N none es pushed,
-                  tt,
-                ),
-              ),
-            ),
-          ),
-        ),
+        (G .ordered, (G .sized, (G .small, (G .once, (G .sorted, tt))))),
       ),
     )
 
@@ -91,17 +77,15 @@ returns c =
     let N = c .in-Continue-entry .ensures tt in
     let none = c .in-rest .ensures tt in
     let v = c .push-reserved .last .self in
-    let pushed = c .push-reserved .ensures .items in
+    let G = grown t (c .args .form) (c .args .x) (c .args .y) _ N none (vec-items v) (c .push-reserved .ensures .items) in
     let n : c .len-number .result ≡ length (messages-of t) = c .len-number .ensures ∙ t .entries .ok .0 ∙ sym (length-meanings (entries-of t)) in
     record {
       entered =
           subst (λ (k : ℕ). Entered (messages-of t) (c .args .form) (c .args .x) (c .args .y) (Ok k) (meanings (vec-items v))) (sym n)
           (added (messages-of t) (c .args .form) (c .args .x) (c .args .y) _ N (none-means t (c .args .form) (c .args .x) (c .args .y) _ N none) (meanings (vec-items v))
-          (omega (arith, n, c .if-number-ge-MESSAGE-LIMIT .left)) (means-after t (c .args .form) (c .args .x) (c .args .y) _ N none (vec-items v) pushed));
+          (omega (arith, n, c .if-number-ge-MESSAGE-LIMIT .left)) (G .means));
       numbered =
           numbered-by (vec-items v) (omega (arith, v .ok .0, c .push-reserved .ensures .len, c .len-number .ensures, c .if-number-ge-MESSAGE-LIMIT .left))
-          (ordered-after t (c .args .form) (c .args .x) (c .args .y) _ N none (vec-items v) pushed)
-          (small-after t (c .args .form) (c .args .x) (c .args .y) _ N none (vec-items v) pushed)
-          (once-after t (c .args .form) (c .args .x) (c .args .y) _ N none (vec-items v) pushed)
-          (sorted-after t (c .args .form) (c .args .x) (c .args .y) _ N none (vec-items v) pushed);
+          (G .ordered) (G .small) (G .once) (G .sorted);
+      algebra = algebra;
     }

@@ -35,9 +35,9 @@ loop-i-holds g c = (length-replicate (g .N) 0, refl)
 
 pub loop-i-again : need.loop-i-again
 loop-i-again g c =
-    let n = length-set (c .loop-i .fields) (c .loop-i .i) (c .from-le-bytes .result) in (
+    let n = length-set (c .loop-i .fields) (c .loop-i .i) (c .field .result) in (
       n ∙ c .loop-i .inv .0,
-      one-more _ (c .args .self .now .body .now) _ _ (omega arith) (omega arith) (search needs) (c .from-le-bytes .ensures) (c .loop-i .inv .1),
+      one-more _ (c .args .self .now .body .now) _ _ (omega arith) (omega arith) (c .field .ensures .low) (c .field .ensures .value) (c .loop-i .inv .1),
     )
 
 pub returns : need.returns

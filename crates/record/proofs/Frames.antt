@@ -18,6 +18,7 @@ two-bytes-of low high n h e =
     let m : n / 256 ≡ high = omega arith in
     cc
 
+-- bytes enough for a head are four and a rest
 head-and-rest : (bytes : List ℕ) → 4 ≤ length bytes →
     bytes ≡ getD bytes 0 0 ∷ getD bytes 1 0 ∷ getD bytes 2 0 ∷ getD bytes 3 0 ∷ drop 4 bytes
 head-and-rest [] h = absurd (omega arith)

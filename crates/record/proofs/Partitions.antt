@@ -1,20 +1,17 @@
 -- Every input of bytes is records and a rest in one way.
 use Prim.Native.Nat.{ℕ, suc, zero, _+_, _*_, _<_, _≤_}
 use mathlib.Core.List.{List, [], _∷_, _++_}
-use mathlib.Core.Logic.{_⊎_, inl, inr}
+use mathlib.Core.Logic.{inl, inr}
 use mathlib.Core.Path.{_≡_, refl, sym, ap, subst, _∙_}
 use native.Mathlib.Omega.{arith}
 use lib.Dec.{lit<}
-use lib.ListN.{length, getD, take, drop}
+use lib.ListN.{length, take, drop}
 use Rattle.std.proofs.shelf.Lists.{append-assoc, length-append, length-drop, length-take-le, take-rest, getD-drop}
 use Rattle.std.proofs.shelf.Tests.{cases-lt}
 use Rattle.record.specs.Frame.{Framed, frame, frames}
 use Rattle.record.specs.Head.{Head}
-use Rattle.record.specs.Partition.{stated, Truncated-at, Placed-from, Partition, Bytes, Records-partition}
-use Rattle.record.proofs.Frames.{length-frame, begins-with, same-front}
-
-abbrev Last : List ℕ → Type 0
-Last rest = (rest ≡ []) ⊎ Truncated-at rest
+use Rattle.record.specs.Partition.{stated, No-more, Placed-from, Bytes, Records-partition}
+use Rattle.record.proofs.Frames.{begins-with, same-front}
 
 -- the records of bytes before which n others stand
 record From (n : ℕ) (input : List ℕ) : Type 0 where
@@ -22,11 +19,15 @@ record From (n : ℕ) (input : List ℕ) : Type 0 where
   rest : List ℕ
   bytes : input ≡ frames rs ++ rest
   placed : Placed-from n rs
-  last : Last rest
+  last : No-more rest
 
-none : (n : ℕ) (input : List ℕ) → Last input → From n input
+none : (n : ℕ) (input : List ℕ) → No-more input → From n input
 none n input l = record { rs = []; rest = input; bytes = refl; placed = tt; last = l }
 
+too-few : (n : ℕ) (input : List ℕ) → 0 < length input → length input < 4 → From n input
+too-few n input s l = none n input (inr (record { some = s; short = inl l }))
+
+-- a record before those of the bytes after it
 one-more : (n : ℕ) (r : Framed) (t : List ℕ) → r .place ≡ n → From (n + length (frame r)) t → From n (frame r ++ t)
 one-more n r t p f = record {
   rs = r ∷ f .rs;
@@ -40,11 +41,12 @@ bytes-after : (n : ℕ) (bytes : List ℕ) → Bytes bytes → Bytes (drop n byt
 bytes-after n bytes h k l =
     subst (λ (b : ℕ). b < 256) (sym (getD-drop n bytes k 0)) (h (n + k) (omega (arith, length-drop n bytes)))
 
+-- reading on ends, since each record takes bytes
 some : (fuel n : ℕ) (input : List ℕ) → length input ≤ fuel → Bytes input → From n input
 some fuel n [] l h = none n [] (inl refl)
-some fuel n (a ∷ []) l h = none n _ (inr (record { some = lit< tt; short = inl (lit< tt) }))
-some fuel n (a ∷ b ∷ []) l h = none n _ (inr (record { some = lit< tt; short = inl (lit< tt) }))
-some fuel n (a ∷ b ∷ c ∷ []) l h = none n _ (inr (record { some = lit< tt; short = inl (lit< tt) }))
+some fuel n (a ∷ []) l h = too-few n _ (lit< tt) (lit< tt)
+some fuel n (a ∷ b ∷ []) l h = too-few n _ (lit< tt) (lit< tt)
+some fuel n (a ∷ b ∷ c ∷ []) l h = too-few n _ (lit< tt) (lit< tt)
 some zero n (a ∷ b ∷ c ∷ d ∷ t) l h = absurd (omega arith)
 some (suc fuel) n (a ∷ b ∷ c ∷ d ∷ t) l h =
     elim (cases-lt (length t) (a + b * 256)) [
@@ -70,7 +72,7 @@ some (suc fuel) n (a ∷ b ∷ c ∷ d ∷ t) l h =
     ]
 
 -- what is nothing or truncated does not begin with a record
-no-record : (r : Framed) (t rest : List ℕ) → rest ≡ frame r ++ t → Last rest → ⊥
+no-record : (r : Framed) (t rest : List ℕ) → rest ≡ frame r ++ t → No-more rest → ⊥
 no-record r t rest e (inl nothing) = omega (arith, ap length e, ap length nothing)
 no-record r t rest e (inr cut) =
     let n = length-append (r .body) t in
@@ -82,8 +84,9 @@ no-record r t rest e (inr cut) =
 framed-same : {r q : Framed} → r .place ≡ q .place → r .kind ≡ q .kind → r .body ≡ q .body → r ≡ q
 framed-same p k b = λ i. record { place = p i; kind = k i; body = b i }
 
+-- the first records are the same, and so are those after them
 same : (n : ℕ) (rs qs : List Framed) (rest last : List ℕ) → frames rs ++ rest ≡ frames qs ++ last →
-    Placed-from n rs → Placed-from n qs → Last rest → Last last → (rs ≡ qs) × (rest ≡ last)
+    Placed-from n rs → Placed-from n qs → No-more rest → No-more last → (rs ≡ qs) × (rest ≡ last)
 same n [] [] rest last e p o l m = (refl, e)
 same n [] (q ∷ qs) rest last e p o l m = absurd (no-record q (frames qs ++ last) rest (e ∙ append-assoc (frame q) (frames qs) last) l)
 same n (r ∷ rs) [] rest last e p o l m = absurd (no-record r (frames rs ++ rest) last (sym e ∙ append-assoc (frame r) (frames rs) rest) m)

@@ -35,6 +35,7 @@ divided rs reader h =
 passed : (rs : List Framed) (reader : Reader) → Recorded rs reader → length (frames rs) ≡ reader .place
 passed rs reader h = ap length (h .bytes) ∙ length-take-le (reader .place) (reader .input .now) (reader .within)
 
+-- after a record is read, it stands last among those passed
 recorded-next : (rs : List Framed) (reader : Reader) (r : Record) (reader′ : Reader) → Recorded rs reader →
     reader′ .input .now ≡ reader .input .now → Read reader r reader′ → Recorded (rs ++ framed r ∷ []) reader′
 recorded-next rs reader r reader′ h i s =
@@ -63,6 +64,7 @@ recorded-more rs reader (Ok (Some r)) reader′ s h = recorded-next rs reader r 
 recorded-more rs reader (Ok None) reader′ s h = recorded-still rs reader reader′ h (s .input) (s .replied .stays)
 recorded-more rs reader (Err e) reader′ s h = recorded-still rs reader reader′ h (s .input) (s .replied .stays)
 
+-- a call that hands out no record comes after all of them
 whole : (rs : List Framed) (reader : Reader) (reply : Reply) (reader′ : Reader) → Step reader reply reader′ →
     Recorded rs reader → Whole rs reader reply
 whole rs reader (Ok (Some r)) reader′ s h = tt
@@ -72,6 +74,7 @@ whole rs reader (Ok None) reader′ s h =
 whole rs reader (Err e) reader′ s h =
     record { bytes = divided rs reader h; placed = h .placed; ends = inr (s .replied .truncated) }
 
+-- so one call says what it does, and all that follows from it
 pub answered : {reader : Reader} {reply : Reply} {reader′ : Reader} → Step reader reply reader′ → Answered reader reply reader′
 answered {reader} {reply} {reader′} s = record {
   step = s;

@@ -24,11 +24,15 @@ Placed-from n (r ∷ rs) = (r .place ≡ n) × Placed-from (n + length (frame r)
 abbrev pub Placed : List Framed → Type 0
 Placed rs = Placed-from 0 rs
 
--- the input is these records and then the rest, which is nothing or too few bytes for a record
+-- no record begins here: nothing is left, or too little
+abbrev pub No-more : List ℕ → Type 0
+No-more left = (left ≡ []) ⊎ Truncated-at left
+
+-- the input is these records and then the rest, with which no record begins
 pub record Partition (input : List ℕ) (rs : List Framed) (rest : List ℕ) : Type 0 where
   pub bytes : input ≡ frames rs ++ rest
   pub placed : Placed rs
-  pub ends : (rest ≡ []) ⊎ Truncated-at rest
+  pub ends : No-more rest
 
 -- every element is a byte
 abbrev pub Bytes : List ℕ → Type 0

@@ -7,6 +7,7 @@ ghost use Rattle.record.specs.Reads.{Recorded, Continues};
 use super::Reader;
 
 impl<'a> Reader<'a> {
+    // A reader at the start of the input.
     pub fn new(input: &'a [u8]) -> Reader<'a>
         ensures input { λ r. ⌜ r .input .now ≡ now (input .entry) ⌝ }
         ensures place { λ r. ⌜ r .place ≡ 0 ⌝ }

@@ -4,8 +4,9 @@ use mathlib.Core.List.{List, [], _∷_, _++_}
 use mathlib.Core.Path.{_≡_, refl, sym, ap, _∙_}
 use native.Mathlib.Omega.{arith}
 use lib.ListN.{length, getD, take, drop}
-use Rattle.std.proofs.shelf.Lists.{take-append-drop, take-at, drop-at, drop-drop}
+use Rattle.std.proofs.shelf.Lists.{length-drop, take-append-drop, take-at, take-rest, drop-at, drop-drop}
 use Rattle.record.specs.Frame.{Framed, two-bytes, frame}
+use Rattle.record.specs.Head.{Head}
 
 pub length-frame : (r : Framed) → length (frame r) ≡ 4 + length (r .body)
 length-frame r = omega arith
@@ -17,15 +18,7 @@ two-bytes-of low high n h e =
     let m : n / 256 ≡ high = omega arith in
     cc
 
--- what a reader finds in a head and after it
-pub record Headed (bytes : List ℕ) (r : Framed) : Type 0 where
-  pub head : 4 ≤ length bytes
-  pub low : getD bytes 0 0 < 256
-  pub len : length (r .body) ≡ getD bytes 0 0 + getD bytes 1 0 * 256
-  pub kind-low : getD bytes 2 0 < 256
-  pub kind : r .kind ≡ getD bytes 2 0 + getD bytes 3 0 * 256
-  pub body : r .body ≡ take (length (r .body)) (drop 4 bytes)
-
+-- bytes enough for a head are four and a rest
 head-and-rest : (bytes : List ℕ) → 4 ≤ length bytes →
     bytes ≡ getD bytes 0 0 ∷ getD bytes 1 0 ∷ getD bytes 2 0 ∷ getD bytes 3 0 ∷ drop 4 bytes
 head-and-rest [] h = absurd (omega arith)
@@ -34,16 +27,19 @@ head-and-rest (a ∷ b ∷ []) h = absurd (omega arith)
 head-and-rest (a ∷ b ∷ c ∷ []) h = absurd (omega arith)
 head-and-rest (a ∷ b ∷ c ∷ d ∷ rest) h = refl
 
--- the bytes are then that record and what follows it
-pub begins-with : (bytes : List ℕ) (r : Framed) → Headed bytes r → bytes ≡ frame r ++ drop (4 + length (r .body)) bytes
-begins-with bytes r h =
-    let n = length (r .body) in
-    let u = two-bytes-of _ _ n (h .low) (h .len) in
-    let v = two-bytes-of _ _ (r .kind) (h .kind-low) (h .kind) in
-    let rest : r .body ++ drop n (drop 4 bytes) ≡ drop 4 bytes =
-    ap (λ (bs : List ℕ). bs ++ drop n (drop 4 bytes)) (h .body) ∙ take-append-drop n (drop 4 bytes) in
-    let far = drop-drop n 4 bytes in
+pub length-rest : {bytes : List ℕ} {size kind : ℕ} {rest : List ℕ} → Head bytes size kind rest → 4 + length rest ≡ length bytes
+length-rest {bytes} h = omega (arith, ap length (h .rest-is ∙ take-rest bytes 4), length-drop 4 bytes)
+
+-- where a head and then a record's body stand, the bytes are that record and what follows it
+pub begins-with : {bytes : List ℕ} {size kind : ℕ} {rest : List ℕ} (r : Framed) → Head bytes size kind rest →
+    length (r .body) ≡ size → r .kind ≡ kind → r .body ≡ take size rest → bytes ≡ frame r ++ drop (4 + length (r .body)) bytes
+begins-with {bytes} {size} {kind} {rest} r h n k b =
+    let u = two-bytes-of _ _ size (h .len-low) (h .len-is) in
+    let v = two-bytes-of _ _ kind (h .kind-low) (h .kind-is) in
+    let back : r .body ++ drop size rest ≡ rest = ap (λ (bs : List ℕ). bs ++ drop size rest) b ∙ take-append-drop size rest in
+    let far = drop-drop size 4 bytes in
     let all = head-and-rest bytes (h .head) in
+    let is = h .rest-is ∙ take-rest bytes 4 in
     cc
 
 -- bytes that begin with two records begin with one

@@ -1,4 +1,4 @@
-mod Frames
-mod Places
+pub mod Frames
+pub mod Places
 mod Partitions
 mod Readings

@@ -19,39 +19,39 @@ Reply = Result (Option Record) Refusal
 
 -- the bytes from the reader's place on
 abbrev pub left : Reader → List ℕ
-left b = drop (b .place) (b .input .now)
+left reader = drop (reader .place) (reader .input .now)
 
 -- the bytes left begin with the record, which the reader passes; its body is that very part of the input
-pub record Read (b : Reader) (r : Record) (b′ : Reader) : Type 0 where
-  pub bytes : left b ≡ frame (framed r) ++ left b′
-  pub place : r .place ≡ b .place
-  pub next : b′ .place ≡ b .place + (4 + length (r .body .now))
-  pub body : r .body .now ≡ take (length (r .body .now)) (drop (b .place + 4) (b .input .now))
+pub record Read (reader : Reader) (r : Record) (reader′ : Reader) : Type 0 where
+  pub bytes : left reader ≡ frame (framed r) ++ left reader′
+  pub place : r .place ≡ reader .place
+  pub moves : reader′ .place ≡ reader .place + (4 + length (r .body .now))
+  pub body : r .body .now ≡ take (length (r .body .now)) (drop (reader .place + 4) (reader .input .now))
 
 -- nothing is left
-pub record Ended (b b′ : Reader) : Type 0 where
-  pub all : b .place ≡ length (b .input .now)
-  pub stays : b′ .place ≡ b .place
+pub record Ended (reader reader′ : Reader) : Type 0 where
+  pub all : reader .place ≡ length (reader .input .now)
+  pub stays : reader′ .place ≡ reader .place
 
 -- what is left is too short for a record
-pub record Stopped (b : Reader) (e : Refusal) (b′ : Reader) : Type 0 where
-  pub first-row : row e ≡ 1
-  pub truncated : Truncated-at (left b)
-  pub stays : b′ .place ≡ b .place
+pub record Stopped (reader : Reader) (e : Refusal) (reader′ : Reader) : Type 0 where
+  pub row-one : row e ≡ 1
+  pub truncated : Truncated-at (left reader)
+  pub stays : reader′ .place ≡ reader .place
 
 abbrev pub Replied : Reader → Reply → Reader → Type 0
-Replied b (Ok (Some r)) b′ = Read b r b′
-Replied b (Ok None) b′ = Ended b b′
-Replied b (Err e) b′ = Stopped b e b′
+Replied reader (Ok (Some r)) reader′ = Read reader r reader′
+Replied reader (Ok None) reader′ = Ended reader reader′
+Replied reader (Err e) reader′ = Stopped reader e reader′
 
 -- one call
-pub record Step (b : Reader) (r : Reply) (b′ : Reader) : Type 0 where
-  pub input : b′ .input .now ≡ b .input .now
-  pub reply : Replied b r b′
+pub record Step (reader : Reader) (reply : Reply) (reader′ : Reader) : Type 0 where
+  pub input : reader′ .input .now ≡ reader .input .now
+  pub replied : Replied reader reply reader′
 
 -- these records are just the bytes before the reader's place
-pub record Recorded (rs : List Framed) (b : Reader) : Type 0 where
-  pub bytes : frames rs ≡ take (b .place) (b .input .now)
+pub record Recorded (rs : List Framed) (reader : Reader) : Type 0 where
+  pub bytes : frames rs ≡ take (reader .place) (reader .input .now)
   pub placed : Placed rs
 
 -- the record that a reply hands out, if any
@@ -62,22 +62,26 @@ handed (Err e) = []
 
 -- where no record is handed out, the records before are all that the input has
 abbrev pub Whole : List Framed → Reader → Reply → Type 0
-Whole rs b (Ok (Some r)) = Unit {0}
-Whole rs b (Ok None) = Partition (b .input .now) rs []
-Whole rs b (Err e) = Partition (b .input .now) rs (left b)
+Whole rs reader (Ok (Some r)) = Unit {0}
+Whole rs reader (Ok None) = Partition (reader .input .now) rs []
+Whole rs reader (Err e) = Partition (reader .input .now) rs (left reader)
 
--- a call, and what it says where the records handed out before it are the bytes passed
-pub record Answered (b : Reader) (r : Reply) (b′ : Reader) : Type 0 where
-  pub step : Step b r b′
-  pub recorded : (rs : List Framed) → Recorded rs b → Recorded (rs ++ handed r) b′
-  pub whole : (rs : List Framed) → Recorded rs b → Whole rs b r
+-- a call, and what it says of the whole input, whatever records are passed before it
+pub record Answered (reader : Reader) (reply : Reply) (reader′ : Reader) : Type 0 where
+  pub step : Step reader reply reader′
+  pub recorded : (rs : List Framed) → Recorded rs reader → Recorded (rs ++ handed reply) reader′
+  pub whole : (rs : List Framed) → Recorded rs reader → Whole rs reader reply
 
 -- any number of calls, with the records that they hand out
 pub data Calls : Reader → List Framed → Reader → Type 0 where
-  no-call : {b : Reader} → Calls b [] b
-  then-call : {a b b′ : Reader} {rs : List Framed} {r : Reply} → Calls a rs b → Step b r b′ → Calls a (rs ++ handed r) b′
+  no-call : {reader : Reader} → Calls reader [] reader
+  then-call : {from reader reader′ : Reader} {rs : List Framed} {reply : Reply} →
+      Calls from rs reader → Step reader reply reader′ → Calls from (rs ++ handed reply) reader′
 
--- what holds after any calls to a new reader
-pub record Begins (b : Reader) : Type 0 where
-  pub input : (rs : List Framed) (b′ : Reader) → Calls b rs b′ → b′ .input .now ≡ b .input .now
-  pub recorded : (rs : List Framed) (b′ : Reader) → Calls b rs b′ → Recorded rs b′
+-- after any calls the records handed out follow those passed before, and where the last call hands out none, they are all
+pub record Continues (reader : Reader) : Type 0 where
+  pub input : (rs : List Framed) (reader′ : Reader) → Calls reader rs reader′ → reader′ .input .now ≡ reader .input .now
+  pub recorded : (before rs : List Framed) (reader′ : Reader) → Recorded before reader → Calls reader rs reader′ →
+      Recorded (before ++ rs) reader′
+  pub whole : (before rs : List Framed) (reader′ : Reader) (reply : Reply) (reader″ : Reader) → Recorded before reader →
+      Calls reader rs reader′ → Step reader′ reply reader″ → Whole (before ++ rs) reader′ reply

@@ -5,7 +5,10 @@ ghost use lib.ListN.{length};
 
 mod fields;
 mod laws;
+mod opening;
 mod reading;
+#[cfg(test)]
+mod tests;
 
 pub use laws::records_partition;
 

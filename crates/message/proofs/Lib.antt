@@ -1,10 +1,9 @@
+pub mod Terms
 pub mod Meanings
-pub mod Numbered
 pub mod Held
 pub mod Places
-pub mod Entering
+pub mod Admitting
 pub mod Growing
 pub mod Searched
 pub mod Carries
 pub mod Carrying
-pub mod Terms

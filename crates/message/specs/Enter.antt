@@ -60,6 +60,10 @@ too-large m = ltb 255 (size m)
 abbrev pub full : List Message → Message → Bool
 full ms m = not (stands ms m) && leb 1024 (length ms)
 
+-- the reply to a call that names the message m, where no row above that of a full table applies
+abbrev pub admit-reply : List Message → Message → Result ℕ ℕ
+admit-reply ms m = first-row ((8, full ms m) ∷ []) (number-of ms m)
+
 abbrev pub enter-rules : List Message → ℕ → ℕ → ℕ → List Rule
 enter-rules ms form x y =
     (3, unlisted form y)

@@ -1,10 +1,10 @@
 pub mod Message
+pub mod Terms
 pub mod Same
 pub mod Place
 pub mod Meaning
 pub mod Carried
+pub mod Carrying
 pub mod Table
 pub mod Enter
 pub mod Read
-pub mod Terms
-pub mod Carrying

@@ -3,7 +3,6 @@ ghost use Prim.Native.Nat.{_<_};
 ghost use mathlib.Core.Path.{_≡_};
 ghost use lib.ListN.{length};
 ghost use Rattle.message.specs.Carried.{CarriedBy, carries};
-ghost use Rattle.message.specs.Carrying.{Carrying};
 ghost use Rattle.message.specs.Meaning.{at};
 ghost use Rattle.message.specs.Table.{messages-of};
 use crate::stored::Operation;
@@ -13,8 +12,7 @@ use crate::table::Messages;
 impl Messages {
     // Whether the message `outer` carries the message `inner`; nothing where one of them is not there.
     pub fn carried(&self, inner: u16, outer: u16) -> Option<bool>
-        ensures answer { λ r. ⌜ CarriedBy (messages-of (now (self .entry))) inner outer r ⌝ }
-        ensures laws { λ _. ⌜ Carrying ⌝ }
+        ensures { λ r. ⌜ CarriedBy (messages-of (now (self .entry))) inner outer r ⌝ }
     {
         let count = self.len();
         if inner as usize >= count || outer as usize >= count {

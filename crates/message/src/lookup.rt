@@ -1,12 +1,13 @@
 // Reading a table: its length, what stands at a number, and the number of what is stored already.
-ghost use Prim.Native.Nat.{ℕ, _<_, _≤_};
+ghost use Prim.Native.Nat.{_<_, _≤_};
 ghost use mathlib.Core.Bool.{true};
 ghost use mathlib.Core.Path.{_≡_};
-ghost use lib.ListN.{length, getD};
+ghost use lib.ListN.{length};
 ghost use Rattle.std.specs.Options.{Cases};
-ghost use Rattle.message.specs.Meaning.{at, no-entry, reach, value};
+ghost use Rattle.message.specs.Meaning.{at, reach, value};
 ghost use Rattle.message.specs.Message.{size};
-ghost use Rattle.message.specs.Table.{Holds, Numbered, entries-of, messages-of};
+ghost use Rattle.message.specs.Read.{Found};
+ghost use Rattle.message.specs.Table.{Holds, Numbered, messages-of};
 use crate::stored::Entry;
 use crate::stored::Stored;
 use crate::stored::StoredPartialEq;
@@ -54,9 +55,10 @@ impl Messages {
         self.entries.get(number as usize).copied()
     }
 
-    // The number of the entry that stores just this.
+    // The number of the message that is stored so.
     pub(crate) fn find(&self, stored: Stored) -> Option<u16>
-        ensures { λ r. ⌜ Cases r ((k : ℕ) → k < length (entries-of (now (self .entry))) → getD (entries-of (now (self .entry))) k no-entry .stored ≡ stored → ⊥) (λ n. (n < length (entries-of (now (self .entry)))) × (getD (entries-of (now (self .entry))) n no-entry .stored ≡ stored)) ⌝ }
+        requires { ⌜ reach stored ≤ length (messages-of (now self)) ⌝ }
+        ensures { λ r. ⌜ Found (messages-of (now (self .entry))) (value (messages-of (now (self .entry))) stored) r ⌝ }
     {
         for (i, entry) in self.entries.iter().enumerate() {
             if is_same(entry.stored, stored) {

@@ -1,7 +1,5 @@
 // The arguments of `enter`: the message that they name, or the first row that fits them.
-ghost use Prim.Native.Nat.{ℕ};
-ghost use mathlib.Core.List.{List};
-ghost use Rattle.message.specs.Message.{Message as Tree, inverse-form, operation-form, symbol-form};
+ghost use Rattle.message.specs.Message.{inverse-form, operation-form, symbol-form};
 ghost use Rattle.message.specs.Read.{Reads};
 ghost use Rattle.message.specs.Table.{messages-of};
 use crate::stored::Entry;
@@ -12,20 +10,20 @@ use crate::table::Messages;
 use crate::table::SIZE_LIMIT;
 use refusal::Refusal;
 
-// An atom or tag, by its own number.
-fn symbol(symbol: Symbol, x: u16, y: u16) -> Result<Entry, Refusal>
-    ensures { λ r. ⌜ ((ms : List Tree) → Reads ms (symbol-form symbol) x y r) ⌝ }
-{
-    if y != 0 {
-        return Err(Refusal::NotListed);
-    }
-    Ok(Entry {
-        stored: Stored::Symbol(symbol, x),
-        size: 1,
-    })
-}
-
 impl Messages {
+    // An atom or tag, by its own number.
+    fn symbol(&self, symbol: Symbol, x: u16, y: u16) -> Result<Entry, Refusal>
+        ensures { λ r. ⌜ Reads (messages-of (now (self .entry))) (symbol-form symbol) x y r ⌝ }
+    {
+        if y != 0 {
+            return Err(Refusal::NotListed);
+        }
+        Ok(Entry {
+            stored: Stored::Symbol(symbol, x),
+            size: 1,
+        })
+    }
+
     // The inverse of a key: that of an inverse is the key inside.
     fn inverse(&self, x: u16, y: u16) -> Result<Entry, Refusal>
         ensures { λ r. ⌜ Reads (messages-of (now (self .entry))) inverse-form x y r ⌝ }
@@ -77,10 +75,10 @@ impl Messages {
         ensures { λ r. ⌜ Reads (messages-of (now (self .entry))) form x y r ⌝ }
     {
         match form {
-            1 => symbol(Symbol::AsymmetricKey, x, y),
-            2 => symbol(Symbol::SymmetricKey, x, y),
-            3 => symbol(Symbol::Datum, x, y),
-            4 => symbol(Symbol::Tag, x, y),
+            1 => self.symbol(Symbol::AsymmetricKey, x, y),
+            2 => self.symbol(Symbol::SymmetricKey, x, y),
+            3 => self.symbol(Symbol::Datum, x, y),
+            4 => self.symbol(Symbol::Tag, x, y),
             5 => self.inverse(x, y),
             6 => self.compound(Operation::Pair, x, y),
             7 => self.compound(Operation::AsymmetricEncryption, x, y),

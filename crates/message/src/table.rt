@@ -1,5 +1,7 @@
 // The table of messages: each message once, by number, in order of first entry, its parts before it.
 ghost use Prim.Native.Nat.{_≤_};
+ghost use mathlib.Core.Path.{_≡_};
+ghost use lib.ListN.{length};
 ghost use Rattle.std.specs.Of.Vec.{vec-cap, vec-items, vec-len};
 ghost use Rattle.message.specs.Meaning.{Distinct, InOrder, Sized, Small, WellSorted, meanings};
 use crate::stored::Entry;
@@ -15,6 +17,7 @@ pub struct Messages {
     pub(crate) entries: Vec<Entry>,
     ghost room: { 1024 ≤ vec-cap entries },
     ghost few: { vec-len entries ≤ 1024 },
+    ghost counted: { vec-len entries ≡ length (meanings (vec-items entries)) },
     ghost ordered: { InOrder (vec-items entries) },
     ghost sized: { Sized (vec-items entries) },
     ghost small: { Small (meanings (vec-items entries)) },

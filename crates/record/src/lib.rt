@@ -4,13 +4,10 @@ ghost use Prim.Native.Nat.{_≤_};
 ghost use lib.ListN.{length};
 
 mod fields;
-mod laws;
 mod opening;
 mod reading;
 #[cfg(test)]
 mod tests;
-
-pub use laws::records_partition;
 
 // A record, where it stands in the input.
 #[derive(Clone, Copy)]

@@ -1,14 +1,13 @@
 -- The test for carried is the relation, and how it goes by numbers.
 use Prim.Native.Nat.{ℕ, _<_}
-use mathlib.Core.Path.{_≡_, refl, sym, ap, _∙_}
+use mathlib.Core.Path.{_≡_, refl, sym, ap, subst, _∙_}
 use mathlib.Core.Logic.{_⊎_, inl, inr, ⊎-elim, _↔_}
 use mathlib.Core.Bool.{Bool, true, false, _||_}
 use mathlib.Core.List.{List}
 use lib.ListN.{length}
 use Rattle.std.proofs.shelf.Tests.{or-cases, or-left, or-right}
-use Rattle.message.specs.declared.stored.Symbol.{Symbol as SymbolKind}
+use Rattle.message.specs.declared.stored.Inside.{Inside}
 use Rattle.message.specs.declared.stored.Stored.{Stored}
-use Rattle.message.specs.declared.stored.Stored.the-variants.{Symbol, Inverse, Compound}
 use Rattle.message.specs.declared.table.Messages.{Messages}
 use Rattle.message.specs.Meaning.{at, value}
 use Rattle.message.specs.Table.{messages-of}
@@ -16,7 +15,7 @@ use Rattle.message.specs.declared.stored.Operation.{Operation}
 use Rattle.message.specs.declared.stored.Operation.the-variants.{Pair, AsymmetricEncryption, SymmetricEncryption}
 use Rattle.message.specs.Message.{Message, symbol, inverse-key, compound}
 use Rattle.message.specs.Same.{same, same-true, true-same}
-use Rattle.message.specs.Carried.{Carried, carries, Tells}
+use Rattle.message.specs.Carried.{Carried, Opens, Tells, carried-inside, carries}
 use Rattle.message.proofs.Carrying.{carried-itself}
 
 -- a message or a part of it: what an encryption or a pair adds to the test
@@ -49,33 +48,6 @@ tells t m answer is = record {
   relation = (λ e. carries-carried t m (sym is ∙ e), λ c. is ∙ carried-carries t m c);
 }
 
--- what carries one message of a table by its parts: nothing does by what is no pair or encryption
-abbrev pub by-parts : (ms : List Message) (t : Message) (s : Stored) → Bool
-by-parts ms t (Symbol s n) = false
-by-parts ms t (Inverse n) = false
-by-parts ms t (Compound Pair x y) = carries t (at ms x) || carries t (at ms y)
-by-parts ms t (Compound AsymmetricEncryption x k) = carries t (at ms x)
-by-parts ms t (Compound SymmetricEncryption x k) = carries t (at ms x)
-
-pub carries-parts : (ms : List Message) (t : Message) (s : Stored) → same t (value ms s) ≡ false → carries t (value ms s) ≡ by-parts ms t s
-carries-parts ms t (Symbol s n) e = e
-carries-parts ms t (Inverse n) e = e
-carries-parts ms t (Compound Pair x y) e = simp e
-carries-parts ms t (Compound AsymmetricEncryption x k) e = simp e
-carries-parts ms t (Compound SymmetricEncryption x k) e = simp e
-
-module _ (ms : List Message) (t : Message) (s : Stored) where
-  pub leaf-parts : ((a : SymbolKind) × (n : ℕ) × (s ≡ Symbol a n)) ⊎ ((n : ℕ) × (s ≡ Inverse n)) → by-parts ms t s ≡ false
-  leaf-parts (inl (a, n, e)) = ap (by-parts ms t) e
-  leaf-parts (inr (n, e)) = ap (by-parts ms t) e
-
-  pub pair-parts : (o : Operation) (x y : ℕ) → s ≡ Compound o x y → o ≡ Pair → by-parts ms t s ≡ carries t (at ms x) || carries t (at ms y)
-  pair-parts o x y e p = ap (by-parts ms t) (e ∙ ap (λ (q : Operation). Compound q x y) p)
-
-  pub content-parts : (o : Operation) (x k : ℕ) → s ≡ Compound o x k → (o ≡ AsymmetricEncryption) ⊎ (o ≡ SymmetricEncryption) → by-parts ms t s ≡ carries t (at ms x)
-  content-parts o x k e (inl p) = ap (by-parts ms t) (e ∙ ap (λ (q : Operation). Compound q x k) p)
-  content-parts o x k e (inr p) = ap (by-parts ms t) (e ∙ ap (λ (q : Operation). Compound q x k) p)
-
 not-same : {m n : Message} → (m ≡ n → ⊥) → same m n ≡ false
 not-same {m} {n} apart = by (same m n) refl
   where
@@ -83,13 +55,15 @@ not-same {m} {n} apart = by (same m n) refl
     by true e = absurd (apart (same-true m n e))
     by false e = e
 
--- by numbers
-module _ (t : Messages) (inner outer : ℕ) (hi : inner < length (messages-of t)) (ho : outer < length (messages-of t)) where
-  pub carries-same : inner ≡ outer → true ≡ carries (at (messages-of t) inner) (at (messages-of t) outer)
-  carries-same e = sym (ap (λ (n : ℕ). carries (at (messages-of t) n) (at (messages-of t) outer)) e ∙ carried-carries (at (messages-of t) outer) (at (messages-of t) outer) (carried-itself (at (messages-of t) outer)))
+-- by numbers: of the message itself
+pub tells-itself : (ms : List Message) (inner outer : ℕ) → inner ≡ outer → Tells (at ms inner) (at ms outer) true
+tells-itself ms inner outer e =
+    tells (at ms inner) (at ms outer) true (sym (carried-carries (at ms inner) (at ms outer) (subst (λ (n : ℕ). Carried (at ms inner) (at ms n)) e (carried-itself (at ms inner)))))
 
-  pub carries-apart : (inner ≡ outer → ⊥) → (s : Stored) → value (messages-of t) s ≡ at (messages-of t) outer →
-      carries (at (messages-of t) inner) (at (messages-of t) outer) ≡ by-parts (messages-of t) (at (messages-of t) inner) s
-  carries-apart apart s is =
-      ap (carries (at (messages-of t) inner)) (sym is)
-      ∙ carries-parts (messages-of t) (at (messages-of t) inner) s (not-same (λ e. apart (t .once inner outer (hi, ho, e ∙ is))))
+-- and of another, by its parts
+pub tells-inside : (t : Messages) (inner outer : ℕ) → inner < length (messages-of t) → outer < length (messages-of t) → (inner ≡ outer → ⊥) →
+    (s : Stored) (inside : Inside) (answer : Bool) → value (messages-of t) s ≡ at (messages-of t) outer → Opens s inside →
+    answer ≡ carried-inside (messages-of t) (at (messages-of t) inner) inside → Tells (at (messages-of t) inner) (at (messages-of t) outer) answer
+tells-inside t inner outer hi ho apart s inside answer is opens told =
+    let other = not-same (λ e. apart (t .once inner outer (hi, ho, e ∙ is))) in
+    tells _ _ answer (told ∙ (sym (opens .parts (messages-of t) (at (messages-of t) inner) other) ∙ ap (carries (at (messages-of t) inner)) is))

@@ -2,9 +2,10 @@
 ghost use Prim.Native.Nat.{_<_};
 ghost use mathlib.Core.Path.{_≡_};
 ghost use lib.ListN.{length};
-ghost use Rattle.message.specs.Carried.{CarriedBy, carries};
+ghost use Rattle.message.specs.Carried.{CarriedBy, Opens, Tells};
 ghost use Rattle.message.specs.Meaning.{at};
 ghost use Rattle.message.specs.Table.{messages-of};
+use crate::stored::Inside;
 use crate::stored::Operation;
 use crate::stored::Stored;
 use crate::table::Messages;
@@ -24,7 +25,7 @@ impl Messages {
     fn is_carried(&self, inner: u16, outer: u16) -> bool
         requires inner { ⌜ inner < length (messages-of (now self)) ⌝ }
         requires outer { ⌜ outer < length (messages-of (now self)) ⌝ }
-        ensures { λ r. ⌜ r ≡ carries (at (messages-of (now (self .entry))) inner) (at (messages-of (now (self .entry))) outer) ⌝ }
+        ensures { λ r. ⌜ Tells (at (messages-of (now (self .entry))) inner) (at (messages-of (now (self .entry))) outer) r ⌝ }
     {
         if inner == outer {
             return true;
@@ -32,14 +33,26 @@ impl Messages {
         let Some(stored) = self.get(outer) else {
             return false;
         };
-        match stored {
-            Stored::Symbol(..) | Stored::Inverse(_) => false,
-            Stored::Compound(operation, x, y) => match operation {
-                Operation::Pair => self.is_carried(inner, x) || self.is_carried(inner, y),
-                Operation::AsymmetricEncryption | Operation::SymmetricEncryption => {
-                    self.is_carried(inner, x)
-                }
-            },
+        match stored.inside() {
+            Inside::Nothing => false,
+            Inside::Content(x) => self.is_carried(inner, x),
+            Inside::Both(x, y) => self.is_carried(inner, x) || self.is_carried(inner, y),
+        }
+    }
+}
+
+impl Stored {
+    // Both parts of a pair, the content of an encryption.
+    fn inside(self) -> Inside
+        ensures { λ r. ⌜ Opens self r ⌝ }
+    {
+        match self {
+            Stored::Symbol(..) | Stored::Inverse(_) => Inside::Nothing,
+            Stored::Compound(Operation::Pair, x, y) => Inside::Both(x, y),
+            Stored::Compound(Operation::AsymmetricEncryption, content, _)
+            | Stored::Compound(Operation::SymmetricEncryption, content, _) => {
+                Inside::Content(content)
+            }
         }
     }
 }

@@ -19,10 +19,13 @@ pub ghost-self : need.ghost-self
 ghost-self c =
     let t = c .args .self .now in
     let v = c .push-reserved .last .self in
-    let G = grown t (c .args .entry) (c .pre .fits) (c .pre .new) (vec-items v) (c .push-reserved .ensures .items) in
-    ( omega (arith, c .push-reserved .ensures .capacity, t .room)
-    , ( omega (arith, c .push-reserved .ensures .len, c .len-number .ensures, c .if-number-ge-MESSAGE-LIMIT .left)
-    , (v .ok .0 ∙ sym (length-meanings (vec-items v)), (G .ordered, (G .sized, (G .small, (G .once, (G .sorted, tt)))))) ))
+    let G = grown t (c .args .entry) (c .pre .fits) (c .pre .new) (vec-items v) (c .push-reserved .ensures .items) in (
+      omega (arith, c .push-reserved .ensures .capacity, t .room),
+      (
+        omega (arith, c .push-reserved .ensures .len, c .len-number .ensures, c .if-number-ge-MESSAGE-LIMIT .left),
+        (v .ok .0 ∙ sym (length-meanings (vec-items v)), (G .ordered, (G .sized, (G .small, (G .once, (G .sorted, tt)))))),
+      ),
+    )
 
 pub returns : need.returns
 returns c =

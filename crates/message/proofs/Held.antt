@@ -21,10 +21,12 @@ holds t n e h is =
     let l : n < length (messages-of t) = omega arith in
     let sized : e .size ≡ size (at (messages-of t) n) = ap (λ (e : Entry). e .size) is ∙ t .sized n h in
     record {
-      there = l;
-      means = ap (λ (e : Entry). value (messages-of t) (e .stored)) is ∙ sym (meaning-at (entries-of t) n (t .ordered) h);
-      older = subst (λ (e : Entry). reach (e .stored) ≤ n) (sym is) (t .ordered n h);
-      sized = sized;
+      stands = record {
+        there = l;
+        means = ap (λ (e : Entry). value (messages-of t) (e .stored)) is ∙ sym (meaning-at (entries-of t) n (t .ordered) h);
+        older = subst (λ (e : Entry). reach (e .stored) ≤ n) (sym is) (t .ordered n h);
+      };
+      sizes = record { there = l; is = sized };
       small = let s = t .small n l in omega (arith, sized);
     }
 

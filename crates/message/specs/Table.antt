@@ -5,6 +5,7 @@ use mathlib.Core.List.{List, []}
 use lib.ListN.{length}
 use Rattle.std.specs.Of.Vec.{vec-items}
 use Rattle.message.specs.declared.stored.Entry.{Entry}
+use Rattle.message.specs.declared.stored.Stored.{Stored}
 use Rattle.message.specs.declared.table.Messages.{Messages}
 use Rattle.message.specs.Carrying.{Carrying}
 use Rattle.message.specs.Meaning.{Distinct, Small, WellSorted, at, meanings, reach, value}
@@ -34,10 +35,19 @@ pub record Begins (t : Messages) : Type 0 where
   pub algebra : Algebra
   pub carrying : Carrying
 
--- the entry with the number n: it means that message, over parts with smaller numbers, and has its size
-pub record Holds (ms : List Message) (n : ℕ) (e : Entry) : Type 0 where
+-- what is stored under the number n: it means that message, over parts with smaller numbers
+pub record Stands (ms : List Message) (n : ℕ) (s : Stored) : Type 0 where
   pub there : n < length ms
-  pub means : value ms (e .stored) ≡ at ms n
-  pub older : reach (e .stored) ≤ n
-  pub sized : e .size ≡ size (at ms n)
+  pub means : value ms s ≡ at ms n
+  pub older : reach s ≤ n
+
+-- k is the size of the message with the number n
+pub record Sizes (ms : List Message) (n k : ℕ) : Type 0 where
+  pub there : n < length ms
+  pub is : k ≡ size (at ms n)
+
+-- the entry with the number n
+pub record Holds (ms : List Message) (n : ℕ) (e : Entry) : Type 0 where
+  pub stands : Stands ms n (e .stored)
+  pub sizes : Sizes ms n (e .size)
   pub small : e .size ≤ 255

@@ -1,13 +1,12 @@
 // Reading a table: its length, what stands at a number, and the number of what is stored already.
-ghost use Prim.Native.Nat.{_<_, _≤_};
+ghost use Prim.Native.Nat.{_≤_};
 ghost use mathlib.Core.Bool.{true};
 ghost use mathlib.Core.Path.{_≡_};
 ghost use lib.ListN.{length};
 ghost use Rattle.std.specs.Options.{Cases};
-ghost use Rattle.message.specs.Meaning.{at, reach, value};
-ghost use Rattle.message.specs.Message.{size};
+ghost use Rattle.message.specs.Meaning.{reach, value};
 ghost use Rattle.message.specs.Read.{Found};
-ghost use Rattle.message.specs.Table.{Holds, Numbered, messages-of};
+ghost use Rattle.message.specs.Table.{Holds, Numbered, Sizes, Stands, messages-of};
 use crate::stored::Entry;
 use crate::stored::Stored;
 use crate::stored::StoredPartialEq;
@@ -31,7 +30,7 @@ impl Messages {
 
     // The message with this number: its parts have smaller numbers.
     pub fn get(&self, number: u16) -> Option<Stored>
-        ensures { λ r. ⌜ Cases r (length (messages-of (now (self .entry))) ≤ number) (λ s. (number < length (messages-of (now (self .entry)))) × (value (messages-of (now (self .entry))) s ≡ at (messages-of (now (self .entry))) number) × (reach s ≤ number)) ⌝ }
+        ensures { λ r. ⌜ Cases r (length (messages-of (now (self .entry))) ≤ number) (Stands (messages-of (now (self .entry))) number) ⌝ }
     {
         match self.entry(number) {
             Some(entry) => Some(entry.stored),
@@ -41,7 +40,7 @@ impl Messages {
 
     // The size of the message with this number.
     pub fn size(&self, number: u16) -> Option<u16>
-        ensures { λ r. ⌜ Cases r (length (messages-of (now (self .entry))) ≤ number) (λ n. (number < length (messages-of (now (self .entry)))) × (n ≡ size (at (messages-of (now (self .entry))) number))) ⌝ }
+        ensures { λ r. ⌜ Cases r (length (messages-of (now (self .entry))) ≤ number) (Sizes (messages-of (now (self .entry))) number) ⌝ }
     {
         match self.entry(number) {
             Some(entry) => Some(entry.size),

@@ -21,19 +21,19 @@ returns-then-inner-outer t c = tells-itself (messages-of (c .args .self .now)) (
 pub returns-in-Nothing : need.returns-in-Nothing
 returns-in-Nothing t c =
     tells-inside (c .args .self .now) (c .args .inner) (c .args .outer) (c .pre .inner) (c .pre .outer) (c .if-inner-outer .left) (c .in-Some .stored) _ _
-    (c .in-Some .ensures tt .1) (c .in-Nothing .ensures tt) refl
+    (c .in-Some .ensures tt .means) (c .in-Nothing .ensures tt) refl
 
 pub returns-in-Content : need.returns-in-Content
 returns-in-Content t c =
     tells-inside (c .args .self .now) (c .args .inner) (c .args .outer) (c .pre .inner) (c .pre .outer) (c .if-inner-outer .left) (c .in-Some .stored) _ _
-    (c .in-Some .ensures tt .1) (c .in-Content .ensures tt) (c .is-carried .ensures .test)
+    (c .in-Some .ensures tt .means) (c .in-Content .ensures tt) (c .is-carried .ensures .test)
 
 pub returns-then-is-carried : need.returns-then-is-carried
 returns-then-is-carried t c =
     tells-inside (c .args .self .now) (c .args .inner) (c .args .outer) (c .pre .inner) (c .pre .outer) (c .if-inner-outer .left) (c .in-Some .stored) _ _
-    (c .in-Some .ensures tt .1) (c .in-Both .ensures tt) (one-part _ _ _ (c .is-carried-in-Both .ensures .test) (c .if-is-carried .taken))
+    (c .in-Some .ensures tt .means) (c .in-Both .ensures tt) (one-part _ _ _ (c .is-carried-in-Both .ensures .test) (c .if-is-carried .taken))
 
 pub returns-else-is-carried : need.returns-else-is-carried
 returns-else-is-carried t c =
     tells-inside (c .args .self .now) (c .args .inner) (c .args .outer) (c .pre .inner) (c .pre .outer) (c .if-inner-outer .left) (c .in-Some .stored) _ _
-    (c .in-Some .ensures tt .1) (c .in-Both .ensures tt) (other-part _ _ _ _ (c .is-carried-in-Both .ensures .test) (c .if-is-carried .left) (c .is-carried-else-is-carried .ensures .test))
+    (c .in-Some .ensures tt .means) (c .in-Both .ensures tt) (other-part _ _ _ _ (c .is-carried-in-Both .ensures .test) (c .if-is-carried .left) (c .is-carried-else-is-carried .ensures .test))

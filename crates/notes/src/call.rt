@@ -1,4 +1,6 @@
 // The calls that records stand for.
+ghost use Rattle.notes.specs.Calls.{StandsFor};
+ghost use Rattle.record.specs.Frame.{framed};
 use record::Record;
 use refusal::Refusal;
 use std::fmt;
@@ -13,7 +15,9 @@ pub enum Call {
 
 impl Call {
     // The call of a record. A kind that no call has, or another number of fields than the call's, is no call.
-    pub(crate) fn read(record: &Record<'_>) -> Result<Call, Refusal> {
+    pub(crate) fn read(record: &Record<'_>) -> Result<Call, Refusal>
+        ensures { λ r. ⌜ StandsFor (framed (now («record» .entry))) r ⌝ }
+    {
         if record.kind != ENTER {
             return Err(Refusal::NotARecord);
         }
@@ -38,11 +42,11 @@ pub impl fmt::Display for Call as CallDisplay {
             (6, _) => write!(f, "enter the pair of messages {x} and {y}"),
             (7, _) => write!(
                 f,
-                "enter message {x} encrypted under asymmetric key message {y}"
+                "enter the asymmetric encryption of message {x} under message {y}"
             ),
             (8, _) => write!(
                 f,
-                "enter message {x} encrypted under symmetric key message {y}"
+                "enter the symmetric encryption of message {x} under message {y}"
             ),
             _ => write!(f, "enter form {form}, x {x}, y {y}"),
         }

@@ -38,10 +38,8 @@ impl Messages {
     pub fn enter(&mut self, form: u16, x: u16, y: u16) -> Result<u16, Refusal>
         ensures { λ r. ⌜ Entered (messages-of (now (self .entry))) form x y r (messages-of (now (self .exit))) ⌝ }
     {
-        match self.read(form, x, y) {
-            Ok(entry) => self.admit(entry),
-            Err(refusal) => Err(refusal),
-        }
+        let entry = self.read(form, x, y)?;
+        self.admit(entry)
     }
 
     // The number of this message, which is put at the end if it is new.

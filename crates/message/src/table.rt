@@ -15,11 +15,14 @@ pub const SIZE_LIMIT: u16 = 255;
 #[derive(Drop)]
 pub struct Messages {
     pub(crate) entries: Vec<Entry>,
+    // The memory for all messages is there, and no more of them than the limit.
     ghost room: { 1024 ≤ vec-cap entries },
     ghost few: { vec-len entries ≤ 1024 },
+    // An entry for each message, its parts before it and its size with it.
     ghost counted: { vec-len entries ≡ length (meanings (vec-items entries)) },
     ghost ordered: { InOrder (vec-items entries) },
     ghost sized: { Sized (vec-items entries) },
+    // No message is too large, stands twice, or has a key of another sort than its encryption's.
     ghost small: { Small (meanings (vec-items entries)) },
     ghost once: { Distinct (meanings (vec-items entries)) },
     ghost sorted: { WellSorted (meanings (vec-items entries)) },

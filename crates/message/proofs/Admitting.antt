@@ -18,7 +18,7 @@ use Rattle.message.specs.Same.{same, same-true, true-same}
 use Rattle.message.specs.Place.{place}
 use Rattle.message.specs.Meaning.{at, Distinct}
 use Rattle.message.specs.Enter.{number-of, stands, full, with-message}
-use Rattle.message.specs.Read.{Admitted}
+use Rattle.message.specs.Resolve.{Admitted}
 use Rattle.message.proofs.Places.{place-before, place-finds, place-none}
 
 -- the number of a message that stands once

@@ -15,7 +15,8 @@ use Rattle.message.specs.declared.stored.Operation.{Operation}
 use Rattle.message.specs.declared.stored.Operation.the-variants.{Pair, AsymmetricEncryption, SymmetricEncryption}
 use Rattle.message.specs.Message.{Message, symbol, inverse-key, compound}
 use Rattle.message.specs.Same.{same, same-true, true-same}
-use Rattle.message.specs.Carried.{Carried, Opens, Tells, carried-inside, carries}
+use Rattle.message.specs.Carried.{Carried, Tells, is-carried}
+use Rattle.message.specs.Inside.{Opens, carried-inside}
 use Rattle.message.proofs.Carrying.{carried-itself}
 
 -- a message or a part of it: what an encryption or a pair adds to the test
@@ -26,26 +27,26 @@ parted : {P Q : Type 0} (a b : Bool) → (P → a ≡ true) → (Q → b ≡ tru
 parted a b p q (inl x) = or-left a b (p x)
 parted a b p q (inr y) = or-right a b (q y)
 
-pub carries-carried : (t m : Message) → carries t m ≡ true → Carried t m
+pub carries-carried : (t m : Message) → is-carried t m ≡ true → Carried t m
 carries-carried t (symbol s n) e = same-true _ _ e
 carries-carried t (inverse-key n) e = same-true _ _ e
 carries-carried t (compound Pair x y) e =
-    joined (same t (compound Pair x y)) _ (same-true _ _) (joined (carries t x) (carries t y) (carries-carried t x) (carries-carried t y)) e
+    joined (same t (compound Pair x y)) _ (same-true _ _) (joined (is-carried t x) (is-carried t y) (carries-carried t x) (carries-carried t y)) e
 carries-carried t (compound AsymmetricEncryption x k) e = joined (same t (compound AsymmetricEncryption x k)) _ (same-true _ _) (carries-carried t x) e
 carries-carried t (compound SymmetricEncryption x k) e = joined (same t (compound SymmetricEncryption x k)) _ (same-true _ _) (carries-carried t x) e
 
-pub carried-carries : (t m : Message) → Carried t m → carries t m ≡ true
-carried-carries t (symbol s n) c = true-same _ _ c
-carried-carries t (inverse-key n) c = true-same _ _ c
-carried-carries t (compound Pair x y) c =
-    parted (same t (compound Pair x y)) _ (true-same _ _) (parted (carries t x) (carries t y) (carried-carries t x) (carried-carries t y)) c
-carried-carries t (compound AsymmetricEncryption x k) c = parted (same t (compound AsymmetricEncryption x k)) _ (true-same _ _) (carried-carries t x) c
-carried-carries t (compound SymmetricEncryption x k) c = parted (same t (compound SymmetricEncryption x k)) _ (true-same _ _) (carried-carries t x) c
+pub carried-is-carried : (t m : Message) → Carried t m → is-carried t m ≡ true
+carried-is-carried t (symbol s n) c = true-same _ _ c
+carried-is-carried t (inverse-key n) c = true-same _ _ c
+carried-is-carried t (compound Pair x y) c =
+    parted (same t (compound Pair x y)) _ (true-same _ _) (parted (is-carried t x) (is-carried t y) (carried-is-carried t x) (carried-is-carried t y)) c
+carried-is-carried t (compound AsymmetricEncryption x k) c = parted (same t (compound AsymmetricEncryption x k)) _ (true-same _ _) (carried-is-carried t x) c
+carried-is-carried t (compound SymmetricEncryption x k) c = parted (same t (compound SymmetricEncryption x k)) _ (true-same _ _) (carried-is-carried t x) c
 
-pub tells : (t m : Message) (answer : Bool) → answer ≡ carries t m → Tells t m answer
+pub tells : (t m : Message) (answer : Bool) → answer ≡ is-carried t m → Tells t m answer
 tells t m answer is = record {
   test = is;
-  relation = (λ e. carries-carried t m (sym is ∙ e), λ c. is ∙ carried-carries t m c);
+  relation = (λ e. carries-carried t m (sym is ∙ e), λ c. is ∙ carried-is-carried t m c);
 }
 
 not-same : {m n : Message} → (m ≡ n → ⊥) → same m n ≡ false
@@ -58,7 +59,7 @@ not-same {m} {n} apart = by (same m n) refl
 -- by numbers: of the message itself
 pub tells-itself : (ms : List Message) (inner outer : ℕ) → inner ≡ outer → Tells (at ms inner) (at ms outer) true
 tells-itself ms inner outer e =
-    tells (at ms inner) (at ms outer) true (sym (carried-carries (at ms inner) (at ms outer) (subst (λ (n : ℕ). Carried (at ms inner) (at ms n)) e (carried-itself (at ms inner)))))
+    tells (at ms inner) (at ms outer) true (sym (carried-is-carried (at ms inner) (at ms outer) (subst (λ (n : ℕ). Carried (at ms inner) (at ms n)) e (carried-itself (at ms inner)))))
 
 -- and of another, by its parts
 pub tells-inside : (t : Messages) (inner outer : ℕ) → inner < length (messages-of t) → outer < length (messages-of t) → (inner ≡ outer → ⊥) →
@@ -66,4 +67,4 @@ pub tells-inside : (t : Messages) (inner outer : ℕ) → inner < length (messag
     answer ≡ carried-inside (messages-of t) (at (messages-of t) inner) inside → Tells (at (messages-of t) inner) (at (messages-of t) outer) answer
 tells-inside t inner outer hi ho apart s inside answer is opens told =
     let other = not-same (λ e. apart (t .once inner outer (hi, ho, e ∙ is))) in
-    tells _ _ answer (told ∙ (sym (opens .parts (messages-of t) (at (messages-of t) inner) other) ∙ ap (carries (at (messages-of t) inner)) is))
+    tells _ _ answer (told ∙ (sym (opens .parts (messages-of t) (at (messages-of t) inner) other) ∙ ap (is-carried (at (messages-of t) inner)) is))

@@ -1,14 +1,12 @@
--- `Carried` obeys the laws of carrying, every test that obeys them holds where it does, and no key is carried for being
--- the key.
+-- `Carried` is the relation of taking apart and opening, and no key is carried for being the key.
 use mathlib.Core.Path.{_≡_, refl, sym, ap, subst}
 use mathlib.Core.Logic.{_⊎_, inl, inr}
-use mathlib.Core.Bool.{Bool, true}
 use native.Mathlib.Omega.{arith}
 use Rattle.message.specs.declared.stored.Operation.{Operation}
 use Rattle.message.specs.declared.stored.Operation.the-variants.{Pair, AsymmetricEncryption, SymmetricEncryption}
 use Rattle.message.specs.Message.{Message, symbol, inverse-key, compound, size}
 use Rattle.message.specs.Carried.{Carried}
-use Rattle.message.specs.Carrying.{Laws, Carrying}
+use Rattle.message.specs.Carrying.{_⊑_, itself, through, first, second, asymmetric, symmetric, Carrying}
 
 pub carried-itself : (m : Message) → Carried m m
 carried-itself (symbol s n) = refl
@@ -28,20 +26,28 @@ carried-through t u (compound AsymmetricEncryption x k) h (inr c) = inr (carried
 carried-through t u (compound SymmetricEncryption x k) h (inl e) = subst (Carried t) e h
 carried-through t u (compound SymmetricEncryption x k) h (inr c) = inr (carried-through t u x h c)
 
-module _ (test : Message → Message → Bool) (L : Laws (λ t m. test t m ≡ true)) where
-  equal-passes : (t m : Message) → t ≡ m → test t m ≡ true
-  equal-passes t m e = subst (λ u. test u m ≡ true) (sym e) (L .itself m)
+-- one step of the relation, after which the rest follows
+equal-⊑ : (t m : Message) → t ≡ m → t ⊑ m
+equal-⊑ t m e = subst (λ u. u ⊑ m) (sym e) itself
 
-  carried-passes : (t m : Message) → Carried t m → test t m ≡ true
-  carried-passes t (symbol s n) e = equal-passes t _ e
-  carried-passes t (inverse-key n) e = equal-passes t _ e
-  carried-passes t (compound Pair x y) (inl e) = equal-passes t _ e
-  carried-passes t (compound Pair x y) (inr (inl c)) = L .through t x _ (carried-passes t x c) (L .first x y)
-  carried-passes t (compound Pair x y) (inr (inr c)) = L .through t y _ (carried-passes t y c) (L .second x y)
-  carried-passes t (compound AsymmetricEncryption x k) (inl e) = equal-passes t _ e
-  carried-passes t (compound AsymmetricEncryption x k) (inr c) = L .through t x _ (carried-passes t x c) (L .asymmetric x k)
-  carried-passes t (compound SymmetricEncryption x k) (inl e) = equal-passes t _ e
-  carried-passes t (compound SymmetricEncryption x k) (inr c) = L .through t x _ (carried-passes t x c) (L .symmetric x k)
+carried-⊑ : (t m : Message) → Carried t m → t ⊑ m
+carried-⊑ t (symbol s n) e = equal-⊑ t _ e
+carried-⊑ t (inverse-key n) e = equal-⊑ t _ e
+carried-⊑ t (compound Pair x y) (inl e) = equal-⊑ t _ e
+carried-⊑ t (compound Pair x y) (inr (inl c)) = through (carried-⊑ t x c) first
+carried-⊑ t (compound Pair x y) (inr (inr c)) = through (carried-⊑ t y c) second
+carried-⊑ t (compound AsymmetricEncryption x k) (inl e) = equal-⊑ t _ e
+carried-⊑ t (compound AsymmetricEncryption x k) (inr c) = through (carried-⊑ t x c) asymmetric
+carried-⊑ t (compound SymmetricEncryption x k) (inl e) = equal-⊑ t _ e
+carried-⊑ t (compound SymmetricEncryption x k) (inr c) = through (carried-⊑ t x c) symmetric
+
+⊑-carried : {t m : Message} → t ⊑ m → Carried t m
+⊑-carried (itself {m = m}) = carried-itself m
+⊑-carried (through {t = t} {u = u} {m = m} p q) = carried-through t u m (⊑-carried p) (⊑-carried q)
+⊑-carried (first {x = x}) = inr (inl (carried-itself x))
+⊑-carried (second {y = y}) = inr (inr (carried-itself y))
+⊑-carried (asymmetric {x = x}) = inr (carried-itself x)
+⊑-carried (symmetric {x = x}) = inr (carried-itself x)
 
 -- no message is an operation with itself as the second part
 not-own-part : (o : Operation) (x k : Message) → k ≡ compound o x k → ⊥
@@ -53,15 +59,7 @@ carried-key o x k (inr c) = c
 
 pub carrying : Carrying
 carrying = record {
-  lawful = record {
-    itself = carried-itself;
-    through = carried-through;
-    first = λ x y. inr (inl (carried-itself x));
-    second = λ x y. inr (inr (carried-itself y));
-    asymmetric = λ x k. inr (carried-itself x);
-    symmetric = λ x k. inr (carried-itself x);
-  };
-  least = carried-passes;
+  least = λ t m. (carried-⊑ t m, ⊑-carried);
   asymmetric-key = carried-key AsymmetricEncryption;
   symmetric-key = carried-key SymmetricEncryption;
 }

@@ -5,5 +5,6 @@ pub mod Places
 pub mod Admitting
 pub mod Growing
 pub mod Searched
-pub mod Carries
 pub mod Carrying
+pub mod Carries
+pub mod Numbers

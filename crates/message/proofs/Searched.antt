@@ -11,7 +11,7 @@ use Rattle.message.specs.declared.table.Messages.{Messages}
 use Rattle.message.specs.Message.{Message, size}
 use Rattle.message.specs.Meaning.{at, value, meanings, reach, no-entry, InOrder, Sized, Small, Distinct, WellSorted}
 use Rattle.message.specs.Table.{entries-of, messages-of}
-use Rattle.message.specs.Read.{Admitted, Fits}
+use Rattle.message.specs.Resolve.{Admitted, Fits}
 use Rattle.message.proofs.Admitting.{found}
 use Rattle.message.proofs.Meanings.{length-meanings, meaning-at, meanings-push}
 use Rattle.message.proofs.Growing.{ordered-push, sized-push, small-push, distinct-push, sorted-push, value-injective}

@@ -12,12 +12,13 @@ use Rattle.refusal.specs.Rows.{Rule, first-row, by-row, unless-refused}
 use Rattle.message.specs.declared.stored.Symbol.the-variants.{AsymmetricKey, SymmetricKey, Datum, Tag}
 use Rattle.message.specs.declared.stored.Operation.the-variants.{Pair, AsymmetricEncryption, SymmetricEncryption}
 use Rattle.message.specs.declared.stored.Sort.the-variants.{Asymmetric, Symmetric}
-use Rattle.message.specs.Message.{Message, symbol, compound, inverse, size, of-sort}
+use Rattle.message.specs.Message.{Message, symbol, compound, inverse, message-limit, of-sort, size, size-limit}
 use Rattle.message.specs.Same.{same}
 use Rattle.message.specs.Place.{place}
 use Rattle.message.specs.Meaning.{at}
 
--- the message that the arguments name: in forms 1 to 4 x is a symbol's number, in 5 to 8 x and y are message numbers
+-- the message that the arguments name: x is the number of the symbol itself in forms 1 to 4, and of a message from form 5
+-- on (the last case also takes the numbers that are no form's: the rules refuse those before)
 abbrev pub named : List Message → ℕ → ℕ → ℕ → Message
 named ms form x y =
     cond (eqb form 1) (symbol AsymmetricKey x)
@@ -29,6 +30,7 @@ named ms form x y =
     (cond (eqb form 7) (compound AsymmetricEncryption (at ms x) (at ms y))
     (compound SymmetricEncryption (at ms x) (at ms y))))))))
 
+-- whether a number is that of a message
 abbrev pub there : List Message → ℕ → Bool
 there ms n = ltb n (length ms)
 
@@ -50,20 +52,19 @@ wrong-sort ms form x y =
 abbrev pub number-of : List Message → Message → ℕ
 number-of ms m = place same m ms
 
+-- whether an equal message stands
 abbrev pub stands : List Message → Message → Bool
 stands ms m = ltb (number-of ms m) (length ms)
 
+-- a message over the limit of sizes
 abbrev pub too-large : Message → Bool
-too-large m = ltb 255 (size m)
+too-large m = ltb size-limit (size m)
 
--- a new message where 1,024 stand
+-- a new message where as many stand as the table holds
 abbrev pub full : List Message → Message → Bool
-full ms m = not (stands ms m) && leb 1024 (length ms)
+full ms m = not (stands ms m) && leb message-limit (length ms)
 
--- the reply to a call that names the message m, where no row above that of a full table applies
-abbrev pub admit-reply : List Message → Message → Result ℕ ℕ
-admit-reply ms m = first-row ((8, full ms m) ∷ []) (number-of ms m)
-
+-- the rows that a call can be refused by, lowest first, each with its condition
 abbrev pub enter-rules : List Message → ℕ → ℕ → ℕ → List Rule
 enter-rules ms form x y =
     (3, unlisted form y)
@@ -73,6 +74,7 @@ enter-rules ms form x y =
     ∷ (8, full ms (named ms form x y))
     ∷ []
 
+-- the first of them that applies, and else the message's number
 abbrev pub enter-reply : List Message → ℕ → ℕ → ℕ → Result ℕ ℕ
 enter-reply ms form x y = first-row (enter-rules ms form x y) (number-of ms (named ms form x y))
 
@@ -80,6 +82,7 @@ enter-reply ms form x y = first-row (enter-rules ms form x y) (number-of ms (nam
 abbrev pub with-message : List Message → Message → List Message
 with-message ms m = cond (stands ms m) ms (ms ++ m ∷ [])
 
+-- the messages after the call: a refusal changes nothing
 abbrev pub after-enter : List Message → ℕ → ℕ → ℕ → List Message
 after-enter ms form x y = unless-refused (enter-reply ms form x y) (with-message ms (named ms form x y)) ms
 

@@ -7,4 +7,5 @@ pub mod Carried
 pub mod Carrying
 pub mod Table
 pub mod Enter
-pub mod Read
+pub mod Resolve
+pub mod Inside

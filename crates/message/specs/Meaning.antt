@@ -8,7 +8,7 @@ use Rattle.message.specs.declared.stored.Symbol.the-variants.{AsymmetricKey}
 use Rattle.message.specs.declared.stored.Stored.{Stored}
 use Rattle.message.specs.declared.stored.Stored.the-variants.{Symbol, Inverse, Compound}
 use Rattle.message.specs.declared.stored.Entry.{Entry}
-use Rattle.message.specs.Message.{Message, symbol, inverse-key, compound, size, well-sorted}
+use Rattle.message.specs.Message.{Message, symbol, inverse-key, compound, size, size-limit, well-sorted}
 
 -- the message with a number: where there is none, which no rule asks for, asymmetric key 0
 abbrev pub at : List Message → ℕ → Message
@@ -25,6 +25,7 @@ abbrev pub meanings-after : List Message → List Entry → List Message
 meanings-after ms [] = ms
 meanings-after ms (e ∷ es) = meanings-after (ms ++ value ms (e .stored) ∷ []) es
 
+-- the messages of all entries
 abbrev pub meanings : List Entry → List Message
 meanings es = meanings-after [] es
 
@@ -34,6 +35,7 @@ reach (Symbol s n) = 0
 reach (Inverse n) = 0
 reach (Compound o x y) = max (x + 1) (y + 1)
 
+-- stands for an entry where there is none
 abbrev pub no-entry : Entry
 no-entry = record { stored = Symbol AsymmetricKey 0; size = 0 }
 
@@ -41,16 +43,18 @@ no-entry = record { stored = Symbol AsymmetricKey 0; size = 0 }
 abbrev pub InOrder : List Entry → Type 0
 InOrder es = (k : ℕ) → k < length es → reach (getD es k no-entry .stored) ≤ k
 
--- each entry has its message's size, which is within the limit
+-- each entry has its message's size
 abbrev pub Sized : List Entry → Type 0
 Sized es = (k : ℕ) → k < length es → getD es k no-entry .size ≡ size (at (meanings es) k)
 
+-- no message is larger than the limit
 abbrev pub Small : List Message → Type 0
-Small ms = (k : ℕ) → k < length ms → size (at ms k) ≤ 255
+Small ms = (k : ℕ) → k < length ms → size (at ms k) ≤ size-limit
 
 -- no message stands twice
 abbrev pub Distinct : List Message → Type 0
 Distinct ms = (i j : ℕ) → (i < length ms) × (j < length ms) × (at ms i ≡ at ms j) → i ≡ j
 
+-- every encryption is under a key of its sort
 abbrev pub WellSorted : List Message → Type 0
 WellSorted ms = (k : ℕ) → k < length ms → well-sorted (at ms k) ≡ true

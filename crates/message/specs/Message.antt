@@ -11,6 +11,8 @@ use Rattle.message.specs.declared.stored.Operation.{Operation}
 use Rattle.message.specs.declared.stored.Operation.the-variants.{Pair, AsymmetricEncryption, SymmetricEncryption}
 use Rattle.message.specs.declared.stored.Sort.{Sort}
 use Rattle.message.specs.declared.stored.Sort.the-variants.{Asymmetric, Symmetric, Data}
+use Rattle.message.specs.declared.stored.Form.{Form}
+use Rattle.message.specs.declared.stored.Form.the-variants.{Symbol as OfSymbol, Inverse as OfInverse, Compound as OfCompound}
 
 -- a symbol with its number; the inverse of the asymmetric key with this number; two messages put together
 pub data Message : Type 0 where
@@ -26,13 +28,15 @@ symbol-form SymmetricKey = 2
 symbol-form Datum = 3
 symbol-form Tag = 4
 
-abbrev pub inverse-form : ℕ
-inverse-form = 5
-
 abbrev pub operation-form : Operation → ℕ
 operation-form Pair = 6
 operation-form AsymmetricEncryption = 7
 operation-form SymmetricEncryption = 8
+
+abbrev pub form-number : Form → ℕ
+form-number (OfSymbol s) = symbol-form s
+form-number OfInverse = 5
+form-number (OfCompound o) = operation-form o
 
 -- the sort of a message: basic values are the messages that have one
 abbrev pub sort-of : Message → Option Sort
@@ -49,10 +53,12 @@ sort-letter Asymmetric = 65
 sort-letter Symmetric = 83
 sort-letter Data = 68
 
+-- whether a sort, if there is one, is this one
 abbrev pub is-sort : Sort → Option Sort → Bool
 is-sort s None = false
 is-sort s (Some r) = eqb (sort-letter r) (sort-letter s)
 
+-- whether a message is of this sort
 abbrev pub of-sort : Sort → Message → Bool
 of-sort s m = is-sort s (sort-of m)
 
@@ -65,11 +71,18 @@ inverse (symbol Tag n) = symbol Tag n
 inverse (inverse-key n) = symbol AsymmetricKey n
 inverse (compound o x y) = compound o x y
 
--- 1 for an atom or tag, else one more than the sizes of the parts
+-- how many operations and symbols a message is built of
 abbrev pub size : Message → ℕ
 size (symbol s n) = 1
 size (inverse-key n) = 2
 size (compound o x y) = 1 + (size x + size y)
+
+-- The limits: how large a message may be, and how many a table holds.
+abbrev pub size-limit : ℕ
+size-limit = 255
+
+abbrev pub message-limit : ℕ
+message-limit = 1024
 
 -- the second part of an operation may be of this sort: an encryption asks for a key of its own, a pair for nothing
 abbrev pub key-fits : Operation → Option Sort → Bool

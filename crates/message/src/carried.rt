@@ -1,8 +1,8 @@
 // Whether a message of the table is carried by another.
 ghost use Prim.Native.Nat.{_<_};
-ghost use mathlib.Core.Path.{_≡_};
 ghost use lib.ListN.{length};
-ghost use Rattle.message.specs.Carried.{CarriedBy, Opens, Tells};
+ghost use Rattle.message.specs.Carried.{CarriedBy, Tells};
+ghost use Rattle.message.specs.Inside.{Opens};
 ghost use Rattle.message.specs.Meaning.{at};
 ghost use Rattle.message.specs.Table.{messages-of};
 use crate::stored::Inside;
@@ -22,6 +22,7 @@ impl Messages {
         Some(self.is_carried(inner, outer))
     }
 
+    // The same of numbers that are there, so that a look-up always finds something.
     fn is_carried(&self, inner: u16, outer: u16) -> bool
         requires inner { ⌜ inner < length (messages-of (now self)) ⌝ }
         requires outer { ⌜ outer < length (messages-of (now self)) ⌝ }

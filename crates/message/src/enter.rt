@@ -7,7 +7,8 @@ ghost use Rattle.std.specs.Of.Vec.{vec-cap, vec-items};
 ghost use Rattle.std.specs.Vec.{made};
 ghost use Rattle.message.specs.Enter.{Entered};
 ghost use Rattle.message.specs.Meaning.{at, value};
-ghost use Rattle.message.specs.Read.{Admitted, Fits};
+ghost use Rattle.message.specs.Message.{message-limit};
+ghost use Rattle.message.specs.Resolve.{Admitted, Fits};
 ghost use Rattle.message.specs.Table.{Begins, messages-of};
 use crate::stored::Entry;
 use crate::table::MESSAGE_LIMIT;
@@ -28,24 +29,27 @@ impl Messages {
     // A new table over this memory.
     fn over(entries: Vec<Entry>) -> Messages
         requires empty { ⌜ vec-items entries ≡ [] ⌝ }
-        requires room { ⌜ 1024 ≤ vec-cap entries ⌝ }
+        requires room { ⌜ message-limit ≤ vec-cap entries ⌝ }
         ensures { λ r. ⌜ Begins r ⌝ }
     {
         Messages { entries }
     }
 
     // The number of the message that the form and its operands name: the old one where an equal message stands.
+    // The memory stays the table's first.
     pub fn enter(&mut self, form: u16, x: u16, y: u16) -> Result<u16, Refusal>
-        ensures { λ r. ⌜ Entered (messages-of (now (self .entry))) form x y r (messages-of (now (self .exit))) ⌝ }
+        ensures entered { λ r. ⌜ Entered (messages-of (now (self .entry))) form x y r (messages-of (now (self .exit))) ⌝ }
+        ensures memory { λ _. ⌜ vec-cap (now (self .exit) .entries) ≡ vec-cap (now (self .entry) .entries) ⌝ }
     {
-        let entry = self.read(form, x, y)?;
+        let entry = self.resolve(form, x, y)?;
         self.admit(entry)
     }
 
     // The number of this message, which is put at the end if it is new.
     fn admit(&mut self, entry: Entry) -> Result<u16, Refusal>
         requires { ⌜ Fits (messages-of (now self)) entry ⌝ }
-        ensures { λ r. ⌜ Admitted (messages-of (now (self .entry))) (value (messages-of (now (self .entry))) (entry .stored)) r (messages-of (now (self .exit))) ⌝ }
+        ensures admitted { λ r. ⌜ Admitted (messages-of (now (self .entry))) (value (messages-of (now (self .entry))) (entry .stored)) r (messages-of (now (self .exit))) ⌝ }
+        ensures memory { λ _. ⌜ vec-cap (now (self .exit) .entries) ≡ vec-cap (now (self .entry) .entries) ⌝ }
     {
         match self.find(entry.stored) {
             Some(number) => Ok(number),
@@ -57,7 +61,8 @@ impl Messages {
     fn append(&mut self, entry: Entry) -> Result<u16, Refusal>
         requires fits { ⌜ Fits (messages-of (now self)) entry ⌝ }
         requires new { ⌜ ((k : ℕ) → k < length (messages-of (now self)) → at (messages-of (now self)) k ≡ value (messages-of (now self)) (entry .stored) → ⊥) ⌝ }
-        ensures { λ r. ⌜ Admitted (messages-of (now (self .entry))) (value (messages-of (now (self .entry))) (entry .stored)) r (messages-of (now (self .exit))) ⌝ }
+        ensures admitted { λ r. ⌜ Admitted (messages-of (now (self .entry))) (value (messages-of (now (self .entry))) (entry .stored)) r (messages-of (now (self .exit))) ⌝ }
+        ensures memory { λ _. ⌜ vec-cap (now (self .exit) .entries) ≡ vec-cap (now (self .entry) .entries) ⌝ }
     {
         let number = self.entries.len();
         if number >= MESSAGE_LIMIT {

@@ -1,8 +1,9 @@
 // Messages: the algebra of keys, data, tags, pairs and encryptions, and the table that numbers them.
-pub mod carried;
-pub mod enter;
-pub mod lookup;
-pub(crate) mod read;
-pub mod sorts;
+mod carried;
+mod enter;
+mod form;
+mod lookup;
+mod resolve;
+mod sorts;
 pub mod stored;
 pub mod table;

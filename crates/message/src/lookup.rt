@@ -5,7 +5,7 @@ ghost use mathlib.Core.Path.{_≡_};
 ghost use lib.ListN.{length};
 ghost use Rattle.std.specs.Options.{Cases};
 ghost use Rattle.message.specs.Meaning.{reach, value};
-ghost use Rattle.message.specs.Read.{Found};
+ghost use Rattle.message.specs.Resolve.{Found};
 ghost use Rattle.message.specs.Table.{Holds, Numbered, Sizes, Stands, messages-of};
 use crate::stored::Entry;
 use crate::stored::Stored;

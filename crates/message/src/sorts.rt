@@ -2,7 +2,7 @@
 ghost use mathlib.Core.List.{List};
 ghost use mathlib.Core.Path.{_≡_};
 ghost use Rattle.message.specs.Meaning.{value};
-ghost use Rattle.message.specs.Message.{Message as Tree, key-fits, sort-of};
+ghost use Rattle.message.specs.Message.{Message as Tree, key-fits, sort-letter, sort-of};
 use crate::stored::Operation;
 use crate::stored::Sort;
 use crate::stored::Stored;
@@ -20,6 +20,19 @@ impl Stored {
             Stored::Symbol(Symbol::Tag, _) => None,
             Stored::Inverse(_) => Some(Sort::Asymmetric),
             Stored::Compound(..) => None,
+        }
+    }
+}
+
+impl Sort {
+    // The letter of the sort.
+    pub fn letter(self) -> char
+        ensures { λ r. ⌜ r ≡ sort-letter self ⌝ }
+    {
+        match self {
+            Sort::Asymmetric => 'A',
+            Sort::Symmetric => 'S',
+            Sort::Data => 'D',
         }
     }
 }

@@ -1,6 +1,6 @@
 // A message as the table holds it: its parts by their numbers.
 
-// What is numbered and has no parts: an atom of one of the three sorts, or a tag.
+// What is numbered and has no parts: an atom of one of the three sorts (a key of either kind, a datum), or a tag.
 #[derive(Clone, Copy, PartialEq, Eq, Debug)]
 pub enum Symbol {
     AsymmetricKey,
@@ -25,6 +25,14 @@ pub enum Sort {
     Data,
 }
 
+// The forms that a message can have.
+#[derive(Clone, Copy, PartialEq, Eq, Debug)]
+pub enum Form {
+    Symbol(Symbol),
+    Inverse,
+    Compound(Operation),
+}
+
 // A symbol has its own number; an inverse, which is always that of an asymmetric key's atom, has the atom's; the other
 // numbers are those of messages in the table.
 #[derive(Clone, Copy, PartialEq, Eq, Debug)]
@@ -35,8 +43,8 @@ pub enum Stored {
 }
 
 // A message with its size.
-#[derive(Clone, Copy, Debug)]
-pub struct Entry {
+#[derive(Clone, Copy)]
+pub(crate) struct Entry {
     pub stored: Stored,
     pub size: u16,
 }

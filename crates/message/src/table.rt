@@ -3,6 +3,7 @@ ghost use Prim.Native.Nat.{_≤_};
 ghost use mathlib.Core.Path.{_≡_};
 ghost use lib.ListN.{length};
 ghost use Rattle.std.specs.Of.Vec.{vec-cap, vec-items, vec-len};
+ghost use Rattle.message.specs.Message.{message-limit};
 ghost use Rattle.message.specs.Meaning.{Distinct, InOrder, Sized, Small, WellSorted, meanings};
 use crate::stored::Entry;
 
@@ -16,8 +17,8 @@ pub const SIZE_LIMIT: u16 = 255;
 pub struct Messages {
     pub(crate) entries: Vec<Entry>,
     // The memory for all messages is there, and no more of them than the limit.
-    ghost room: { 1024 ≤ vec-cap entries },
-    ghost few: { vec-len entries ≤ 1024 },
+    ghost room: { message-limit ≤ vec-cap entries },
+    ghost few: { vec-len entries ≤ message-limit },
     // An entry for each message, its parts before it and its size with it.
     ghost counted: { vec-len entries ≡ length (meanings (vec-items entries)) },
     ghost ordered: { InOrder (vec-items entries) },

@@ -1,5 +1,5 @@
 -- A new message is refused where the table is full, and else put at the end, with the table's facts kept.
-use mathlib.Core.Path.{_≡_, sym, ap, _∙_}
+use mathlib.Core.Path.{refl, sym, _∙_}
 use native.Mathlib.Omega.{arith}
 use lib.ListN.{length}
 use Rattle.std.specs.Of.Vec.{vec-items}
@@ -13,7 +13,7 @@ use Rattle.message.proofs.table.Messages.append.Needs as need
 pub returns-then-number-ge-MESSAGE-LIMIT : need.returns-then-number-ge-MESSAGE-LIMIT
 returns-then-number-ge-MESSAGE-LIMIT c =
     let t = c .args .self .now in
-    over (messages-of t) _ (c .pre .new) (omega (arith, t .counted, c .len-number .ensures, c .if-number-ge-MESSAGE-LIMIT .taken))
+    record { admitted = over (messages-of t) _ (c .pre .new) (omega (arith, t .counted, c .len-number .ensures, c .if-number-ge-MESSAGE-LIMIT .taken)); memory = refl }
 
 pub ghost-self : need.ghost-self
 ghost-self c =
@@ -32,4 +32,7 @@ returns c =
     let t = c .args .self .now in
     let v = c .push-reserved .last .self in
     let G = grown t (c .args .entry) (c .pre .fits) (c .pre .new) (vec-items v) (c .push-reserved .ensures .items) in
-    added (messages-of t) _ (c .pre .new) (c .len-number .result) (meanings (vec-items v)) (c .len-number .ensures ∙ t .counted) (c .if-number-ge-MESSAGE-LIMIT .left) (G .means)
+    record {
+      admitted = added (messages-of t) _ (c .pre .new) (c .len-number .result) (meanings (vec-items v)) (c .len-number .ensures ∙ t .counted) (c .if-number-ge-MESSAGE-LIMIT .left) (G .means);
+      memory = c .push-reserved .ensures .capacity;
+    }

@@ -1,8 +1,9 @@
 // The arguments of `enter`: the message that they name, or the first row that fits them.
-ghost use Rattle.message.specs.Message.{inverse-form, operation-form, symbol-form};
-ghost use Rattle.message.specs.Read.{Reads};
+ghost use Rattle.message.specs.Message.{form-number};
+ghost use Rattle.message.specs.Resolve.{Resolves};
 ghost use Rattle.message.specs.Table.{messages-of};
 use crate::stored::Entry;
+use crate::stored::Form;
 use crate::stored::Operation;
 use crate::stored::Stored;
 use crate::stored::Symbol;
@@ -13,7 +14,7 @@ use refusal::Refusal;
 impl Messages {
     // An atom or tag, by its own number.
     fn symbol(&self, symbol: Symbol, x: u16, y: u16) -> Result<Entry, Refusal>
-        ensures { λ r. ⌜ Reads (messages-of (now (self .entry))) (symbol-form symbol) x y r ⌝ }
+        ensures { λ r. ⌜ Resolves (messages-of (now (self .entry))) (form-number (Form.Symbol symbol)) x y r ⌝ }
     {
         if y != 0 {
             return Err(Refusal::NotListed);
@@ -26,7 +27,7 @@ impl Messages {
 
     // The inverse of a key: that of an inverse is the key inside.
     fn inverse(&self, x: u16, y: u16) -> Result<Entry, Refusal>
-        ensures { λ r. ⌜ Reads (messages-of (now (self .entry))) inverse-form x y r ⌝ }
+        ensures { λ r. ⌜ Resolves (messages-of (now (self .entry))) (form-number Form.Inverse) x y r ⌝ }
     {
         if y != 0 {
             return Err(Refusal::NotListed);
@@ -49,7 +50,7 @@ impl Messages {
 
     // Two messages of the table put together.
     fn compound(&self, operation: Operation, x: u16, y: u16) -> Result<Entry, Refusal>
-        ensures { λ r. ⌜ Reads (messages-of (now (self .entry))) (operation-form operation) x y r ⌝ }
+        ensures { λ r. ⌜ Resolves (messages-of (now (self .entry))) (form-number (Form.Compound operation)) x y r ⌝ }
     {
         let Some(first) = self.entry(x) else {
             return Err(Refusal::NotThere);
@@ -71,19 +72,16 @@ impl Messages {
     }
 
     // The message that a form and its operands name.
-    pub(crate) fn read(&self, form: u16, x: u16, y: u16) -> Result<Entry, Refusal>
-        ensures { λ r. ⌜ Reads (messages-of (now (self .entry))) form x y r ⌝ }
+    pub(crate) fn resolve(&self, form: u16, x: u16, y: u16) -> Result<Entry, Refusal>
+        ensures { λ r. ⌜ Resolves (messages-of (now (self .entry))) form x y r ⌝ }
     {
+        let Some(form) = Form::listed(form) else {
+            return Err(Refusal::NotListed);
+        };
         match form {
-            1 => self.symbol(Symbol::AsymmetricKey, x, y),
-            2 => self.symbol(Symbol::SymmetricKey, x, y),
-            3 => self.symbol(Symbol::Datum, x, y),
-            4 => self.symbol(Symbol::Tag, x, y),
-            5 => self.inverse(x, y),
-            6 => self.compound(Operation::Pair, x, y),
-            7 => self.compound(Operation::AsymmetricEncryption, x, y),
-            8 => self.compound(Operation::SymmetricEncryption, x, y),
-            _ => Err(Refusal::NotListed),
+            Form::Symbol(symbol) => self.symbol(symbol, x, y),
+            Form::Inverse => self.inverse(x, y),
+            Form::Compound(operation) => self.compound(operation, x, y),
         }
     }
 }

@@ -1,23 +1,22 @@
 -- The ways in which a message is admitted, each by the messages that stand.
 use Prim.Native.Nat.{ℕ, _+_, _<_, _≤_}
-use mathlib.Core.Path.{_≡_, refl, sym, ap, subst, _∙_}
-use mathlib.Core.Bool.{Bool, true, false, cond, not, _&&_}
+use mathlib.Core.Path.{_≡_, refl, sym, ap, _∙_}
+use mathlib.Core.Bool.{true, false}
 use mathlib.Core.List.{List, [], _∷_, _++_}
 use native.Mathlib.Omega.{arith}
-use lib.Dec.{ltb, leb}
-use lib.ListN.{length, getD}
+use lib.Dec.{leb}
+use lib.ListN.{length}
 use Rattle.std.proofs.shelf.Lists.{length-push, getD-push, getD-append-left}
 use Rattle.std.proofs.shelf.Tests.{lt-ltb, le-ltb}
 use Rattle.std.specs.declared.result.Result.{Result}
 use Rattle.std.specs.declared.result.Result.the-variants.{Ok, Err}
 use Rattle.refusal.specs.declared.Refusal.the-variants.{OverLimit}
-use Rattle.refusal.specs.Rows.{by-row, unless-refused}
 use Rattle.message.specs.declared.stored.Symbol.the-variants.{AsymmetricKey}
 use Rattle.message.specs.Message.{Message, symbol}
 use Rattle.message.specs.Same.{same, same-true, true-same}
 use Rattle.message.specs.Place.{place}
 use Rattle.message.specs.Meaning.{at, Distinct}
-use Rattle.message.specs.Enter.{number-of, stands, full, with-message}
+use Rattle.message.specs.Enter.{number-of, stands}
 use Rattle.message.specs.Resolve.{Admitted}
 use Rattle.message.proofs.Places.{place-before, place-finds, place-none}
 

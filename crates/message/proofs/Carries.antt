@@ -1,7 +1,7 @@
 -- The test for carried is the relation, and how it goes by numbers.
 use Prim.Native.Nat.{ℕ, _<_}
 use mathlib.Core.Path.{_≡_, refl, sym, ap, subst, _∙_}
-use mathlib.Core.Logic.{_⊎_, inl, inr, ⊎-elim, _↔_}
+use mathlib.Core.Logic.{_⊎_, inl, inr, ⊎-elim}
 use mathlib.Core.Bool.{Bool, true, false, _||_}
 use mathlib.Core.List.{List}
 use lib.ListN.{length}
@@ -11,7 +11,6 @@ use Rattle.message.specs.declared.stored.Stored.{Stored}
 use Rattle.message.specs.declared.table.Messages.{Messages}
 use Rattle.message.specs.Meaning.{at, value}
 use Rattle.message.specs.Table.{messages-of}
-use Rattle.message.specs.declared.stored.Operation.{Operation}
 use Rattle.message.specs.declared.stored.Operation.the-variants.{Pair, AsymmetricEncryption, SymmetricEncryption}
 use Rattle.message.specs.Message.{Message, symbol, inverse-key, compound}
 use Rattle.message.specs.Same.{same, same-true, true-same}

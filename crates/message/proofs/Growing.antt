@@ -1,6 +1,6 @@
 -- A table with one more entry keeps its facts.
 use Prim.Native.Nat.{ℕ, _+_, _<_, _≤_}
-use mathlib.Core.Path.{_≡_, refl, sym, ap, ap₂, subst, _∙_}
+use mathlib.Core.Path.{_≡_, sym, ap, subst, _∙_}
 use mathlib.Core.Bool.{true}
 use mathlib.Core.Logic.{_⊎_, inl, inr, ⊎-elim}
 use mathlib.Core.List.{List, [], _∷_, _++_}
@@ -12,9 +12,9 @@ use Rattle.message.specs.declared.stored.Symbol.the-variants.{AsymmetricKey}
 use Rattle.message.specs.declared.stored.Stored.{Stored}
 use Rattle.message.specs.declared.stored.Stored.the-variants.{Symbol, Inverse, Compound}
 use Rattle.message.specs.declared.stored.Entry.{Entry}
-use Rattle.message.specs.Message.{Message, symbol, inverse-key, compound, size, well-sorted}
+use Rattle.message.specs.Message.{Message, symbol, size, well-sorted}
 use Rattle.message.specs.Meaning.{at, value, meanings, reach, no-entry, InOrder, Sized, Small, Distinct, WellSorted}
-use Rattle.message.proofs.Meanings.{length-meanings, meanings-push, meaning-at}
+use Rattle.message.proofs.Meanings.{length-meanings, meanings-push}
 
 -- what holds at each place of a list and of one more element holds at each place of both
 each-push : {X : Type 0} (d : X) (P : X → ℕ → Type 0) (xs : List X) (x : X) → ((k : ℕ) → k < length xs → P (getD xs k d) k) → P x (length xs) →

@@ -8,7 +8,7 @@ use Rattle.std.specs.declared.result.Result.the-variants.{Ok}
 use Rattle.message.specs.declared.stored.Stored.{Stored}
 use Rattle.message.specs.declared.stored.Entry.{Entry}
 use Rattle.message.specs.declared.table.Messages.{Messages}
-use Rattle.message.specs.Message.{Message, size}
+use Rattle.message.specs.Message.{Message}
 use Rattle.message.specs.Meaning.{at, value, meanings, reach, no-entry, InOrder, Sized, Small, Distinct, WellSorted}
 use Rattle.message.specs.Table.{entries-of, messages-of}
 use Rattle.message.specs.Resolve.{Admitted, Fits}

@@ -1,6 +1,9 @@
 // The calls that records stand for.
 ghost use Rattle.notes.specs.Calls.{StandsFor};
 ghost use Rattle.record.specs.Frame.{framed};
+use message::stored::Form;
+use message::stored::Operation;
+use message::stored::Symbol;
 use record::Record;
 use refusal::Refusal;
 use std::fmt;
@@ -33,22 +36,37 @@ pub impl fmt::Display for Call as CallDisplay {
     // In words where the form is listed and its unused field is 0, and else by the numbers.
     fn fmt<W: fmt::Write>(&self, f: &mut fmt::Formatter<W>) -> fmt::Result {
         let Call::Enter { form, x, y } = *self;
-        match (form, y) {
-            (1, 0) => write!(f, "enter asymmetric key {x}"),
-            (2, 0) => write!(f, "enter symmetric key {x}"),
-            (3, 0) => write!(f, "enter data {x}"),
-            (4, 0) => write!(f, "enter tag {x}"),
-            (5, 0) => write!(f, "enter the inverse of message {x}"),
-            (6, _) => write!(f, "enter the pair of messages {x} and {y}"),
-            (7, _) => write!(
-                f,
-                "enter the asymmetric encryption of message {x} under message {y}"
-            ),
-            (8, _) => write!(
-                f,
-                "enter the symmetric encryption of message {x} under message {y}"
-            ),
+        match (Form::listed(form), y) {
+            (Some(Form::Symbol(symbol)), 0) => {
+                let name = name(symbol);
+                write!(f, "enter {name} {x}")
+            }
+            (Some(Form::Inverse), 0) => write!(f, "enter the inverse of message {x}"),
+            (Some(Form::Compound(Operation::Pair)), _) => {
+                write!(f, "enter the pair of messages {x} and {y}")
+            }
+            (Some(Form::Compound(Operation::AsymmetricEncryption)), _) => {
+                write!(
+                    f,
+                    "enter the asymmetric encryption of message {x} under message {y}"
+                )
+            }
+            (Some(Form::Compound(Operation::SymmetricEncryption)), _) => {
+                write!(
+                    f,
+                    "enter the symmetric encryption of message {x} under message {y}"
+                )
+            }
             _ => write!(f, "enter form {form}, x {x}, y {y}"),
         }
+    }
+}
+
+fn name(symbol: Symbol) -> &'static str {
+    match symbol {
+        Symbol::AsymmetricKey => "asymmetric key",
+        Symbol::SymmetricKey => "symmetric key",
+        Symbol::Datum => "data",
+        Symbol::Tag => "tag",
     }
 }

@@ -1,7 +1,7 @@
 // Reads records of calls from standard input and prints a line for each: where the record begins, the call in words, and
 // the reply. A record that is cut short, or that is no call's, ends the reading.
 mod call;
-mod term;
+mod spelled;
 
 use call::Call;
 use call::CallDisplay;
@@ -9,50 +9,56 @@ use message::table::Messages;
 use record::Reader;
 use refusal::Refusal;
 use refusal::RefusalDisplay;
+use spelled::Spelled;
+use spelled::SpelledDisplay;
+use std::alloc::Global;
 use std::error::AnyError;
 use std::io;
 use std::io::Read;
-use term::Term;
-use term::TermDisplay;
 
 // How many bytes are read; what comes after them counts as absent.
 const INPUT_LIMIT: u64 = 40_960;
 
-// The bytes of standard input, as far as the limit.
-fn input(rt: &LibcRuntime) -> io::Result<Vec<u8>> {
-    let mut bytes = Vec::new(rt.alloc());
-    rt.stdin().take(INPUT_LIMIT).read_to_end(&mut bytes)?;
+// What the source has, as far as the limit.
+fn input<R: Read + Drop>(heap: Global, source: R) -> io::Result<Vec<u8>> {
+    let mut bytes = Vec::new(heap);
+    source.take(INPUT_LIMIT).read_to_end(&mut bytes)?;
     Ok(bytes)
 }
 
-// The end of a line whose record or call is refused.
-fn print_refusal(rt: &LibcRuntime, refusal: Refusal) -> io::Result<()> {
-    let row = refusal.number();
-    println!(rt, "refused, row {row}: {refusal}")
-}
-
 // Makes the call, and prints it with its reply.
-fn answer(rt: &LibcRuntime, messages: &mut Messages, call: Call) -> io::Result<()> {
-    print!(rt, "{call}: ")?;
+fn answer(rt: &LibcRuntime, messages: &mut Messages, place: usize, call: Call) -> io::Result<()> {
     let Call::Enter { form, x, y } = call;
     let before = messages.len();
     match messages.enter(form, x, y) {
         Ok(number) => {
-            let term = Term { messages, number };
+            let message = Spelled { messages, number };
             let again = if (number as usize) < before {
                 ", entered before"
             } else {
                 ""
             };
-            println!(rt, "message {number} is {term}{again}")
+            println!(
+                rt,
+                "byte {place}: {call}: message {number} is {message}{again}"
+            )
         }
-        Err(refusal) => print_refusal(rt, refusal),
+        Err(refusal) => {
+            let row = refusal.number();
+            println!(rt, "byte {place}: {call}: refused, row {row}: {refusal}")
+        }
     }
+}
+
+// The line of a record that is no call.
+fn refuse(rt: &LibcRuntime, place: usize, refusal: Refusal) -> io::Result<()> {
+    let row = refusal.number();
+    println!(rt, "byte {place}: refused, row {row}: {refusal}")
 }
 
 // A line for each record, until the input or the reading ends.
 fn run(rt: &LibcRuntime) -> Result<(), AnyError> {
-    let bytes = input(rt)?;
+    let bytes = input(rt.alloc(), rt.stdin())?;
     let mut messages = Messages::new(rt.alloc())?;
     let mut reader = Reader::new(bytes.as_slice());
     loop {
@@ -62,11 +68,10 @@ fn run(rt: &LibcRuntime) -> Result<(), AnyError> {
             Ok(Some(record)) => Call::read(&record),
             Err(refusal) => Err(refusal),
         };
-        print!(rt, "byte {place}: ")?;
         match call {
-            Ok(call) => answer(rt, &mut messages, call)?,
+            Ok(call) => answer(rt, &mut messages, place, call)?,
             Err(refusal) => {
-                print_refusal(rt, refusal)?;
+                refuse(rt, place, refusal)?;
                 return Ok(());
             }
         }
@@ -75,4 +80,18 @@ fn run(rt: &LibcRuntime) -> Result<(), AnyError> {
 
 fn main(rt: LibcRuntime) -> Result<(), AnyError> {
     rt.report(run(&rt))
+}
+
+#[cfg(test)]
+mod tests {
+    use super::INPUT_LIMIT;
+    use super::input;
+    use std::test::*;
+
+    #[test]
+    fn input_ends_at_the_limit(rt: LibcRuntime) -> Result<(), Fail> {
+        let long = vec![in rt.alloc(); 0u8; INPUT_LIMIT as usize + 1]?;
+        let read = input(rt.alloc(), long.as_slice())?;
+        check_eq(read.len(), 40_960)
+    }
 }

@@ -1,5 +1,5 @@
 -- Each way out is what the test says of the message: of itself, or by its parts.
-use mathlib.Core.Path.{_≡_, refl, sym, ap, _∙_}
+use mathlib.Core.Path.{_≡_, refl, sym, _∙_}
 use mathlib.Core.Bool.{Bool, true, false, _||_}
 use Rattle.std.proofs.shelf.Tests.{false≢true, true≢false}
 use Rattle.message.specs.Table.{messages-of}

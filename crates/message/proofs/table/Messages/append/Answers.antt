@@ -1,7 +1,6 @@
 -- A new message is refused where the table is full, and else put at the end, with the table's facts kept.
 use mathlib.Core.Path.{refl, sym, _∙_}
 use native.Mathlib.Omega.{arith}
-use lib.ListN.{length}
 use Rattle.std.specs.Of.Vec.{vec-items}
 use Rattle.message.specs.Meaning.{meanings}
 use Rattle.message.specs.Table.{messages-of}

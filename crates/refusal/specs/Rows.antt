@@ -18,6 +18,7 @@ use Rattle.refusal.specs.declared.Refusal.the-variants.{
   RoleNotWellFormed,
 }
 
+-- the number of each
 abbrev pub row : Refusal → ℕ
 row Truncated = 1
 row NotARecord = 2

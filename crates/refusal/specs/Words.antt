@@ -19,9 +19,9 @@ use Rattle.refusal.specs.declared.Refusal.the-variants.{
 abbrev pub in-words : Refusal → List ℕ
 in-words Truncated = codes "the input ends inside this record"
 in-words NotARecord = codes "no record of this kind and length belongs in this file"
-in-words NotListed = codes "a form, sign, kind or letter is not listed, or an unused field is not 0"
-in-words NotThere = codes "a message, strand, node, role, parameter or channel is not there"
-in-words WrongSort = codes "an operand or parameter is of another sort"
+in-words NotListed = codes "a field holds a value that is not listed, or should be 0 and is not"
+in-words NotThere = codes "a field names something that is not there"
+in-words WrongSort = codes "a field names something of the wrong sort"
 in-words StandsAlready = codes "it stands already"
 in-words DoesNotStand = codes "it does not stand"
 in-words OverLimit = codes "a limit would be passed"

@@ -12,11 +12,11 @@ pub enum Refusal {
     Truncated,
     // Row 2: a record of a kind or length that this file does not have.
     NotARecord,
-    // Row 3: a form, sign, kind or letter that is not listed, or an unused field that is not 0.
+    // Row 3: a value that its field does not have, or an unused field that is not 0.
     NotListed,
-    // Row 4: a message, strand, node, role, parameter or channel that is not there.
+    // Row 4: a name of something (a message, a strand, a channel) that is not there.
     NotThere,
-    // Row 5: an operand or parameter of another sort.
+    // Row 5: a name of something that has not the sort asked for.
     WrongSort,
     // Row 6: what is to be entered stands already.
     StandsAlready,
@@ -58,8 +58,8 @@ impl Refusal {
             Refusal::NotARecord => "no record of this kind and length belongs in this file",
             Refusal::NotListed =>
                 "a form, sign, kind or letter is not listed, or an unused field is not 0",
-            Refusal::NotThere => "a message, strand, node, role, parameter or channel is not there",
-            Refusal::WrongSort => "an operand or parameter is of another sort",
+            Refusal::NotThere => "a field names something that is not there",
+            Refusal::WrongSort => "a field names something of the wrong sort",
             Refusal::StandsAlready => "it stands already",
             Refusal::DoesNotStand => "it does not stand",
             Refusal::OverLimit => "a limit would be passed",

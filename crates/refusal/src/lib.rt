@@ -57,7 +57,7 @@ impl Refusal {
             Refusal::Truncated => "the input ends inside this record",
             Refusal::NotARecord => "no record of this kind and length belongs in this file",
             Refusal::NotListed =>
-                "a form, sign, kind or letter is not listed, or an unused field is not 0",
+                "a field holds a value that is not listed, or should be 0 and is not",
             Refusal::NotThere => "a field names something that is not there",
             Refusal::WrongSort => "a field names something of the wrong sort",
             Refusal::StandsAlready => "it stands already",

@@ -1,5 +1,5 @@
 -- What a call of the reader says of every list of records passed before it, and what calls in a row say.
-use Prim.Native.Nat.{ℕ, _+_}
+use Prim.Native.Nat.{ℕ, _+_, _*_, _≤_}
 use mathlib.Core.List.{List, [], _∷_, _++_}
 use mathlib.Core.Logic.{inl, inr}
 use mathlib.Core.Path.{_≡_, refl, sym, ap, subst, _∙_}
@@ -86,6 +86,18 @@ same-input : (from reader : Reader) (rs : List Framed) → Calls from rs reader 
 same-input from reader rs no-call = refl
 same-input from reader rs (then-call {reader = m} {rs = qs} calls s) = s .input ∙ same-input from m qs calls
 
+-- a call that hands out a record moves the reader by four bytes or more, and no call moves it back
+moved : (reader : Reader) (reply : Reply) (reader′ : Reader) → Step reader reply reader′ →
+    reader .place + 4 * length (handed reply) ≤ reader′ .place
+moved reader (Ok (Some r)) reader′ s = omega arith
+moved reader (Ok None) reader′ s = omega arith
+moved reader (Err e) reader′ s = omega arith
+
+moved-all : (from reader : Reader) (rs : List Framed) → Calls from rs reader → from .place + 4 * length rs ≤ reader .place
+moved-all from reader rs no-call = omega arith
+moved-all from reader rs (then-call {reader = m} {rs = qs} {reply = reply} calls s) =
+    omega (arith, moved-all from m qs calls, moved m reply reader s, length-append qs (handed reply))
+
 recorded-all : (before : List Framed) (from reader : Reader) (rs : List Framed) → Recorded before from → Calls from rs reader →
     Recorded (before ++ rs) reader
 recorded-all before from reader rs h no-call = rw (append-nil before) h
@@ -96,6 +108,8 @@ recorded-all before from reader rs h (then-call {reader = m} {rs = qs} {reply = 
 pub continues : (reader : Reader) → Continues reader
 continues reader = record {
   input = λ rs reader′. same-input reader reader′ rs;
+  ends = λ rs reader′ calls.
+      omega (arith, moved-all reader reader′ rs calls, ap length (same-input reader reader′ rs calls));
   recorded = λ before rs reader′. recorded-all before reader reader′ rs;
   whole = λ before rs reader′ reply reader″ h calls s.
       whole (before ++ rs) reader′ reply reader″ s (recorded-all before reader reader′ rs h calls);

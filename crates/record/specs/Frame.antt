@@ -15,6 +15,7 @@ pub record Framed : Type 0 where
   pub kind : ℕ
   pub body : List ℕ
 
+-- a record of the program as those values, its body as the bytes that it points to
 abbrev pub framed : Record → Framed
 framed r = record { place = r .place; kind = r .kind; body = r .body .now }
 

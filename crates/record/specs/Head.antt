@@ -1,4 +1,5 @@
 -- A head that has been read, as the reader's own calls hand it on.
+-- Private functions alone use it: no public contract rests on it.
 use Prim.Native.Nat.{ℕ, _+_, _*_, _<_, _≤_}
 use mathlib.Core.List.{List}
 use mathlib.Core.Path.{_≡_}

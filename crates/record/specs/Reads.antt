@@ -1,5 +1,5 @@
 -- What the reader answers, and what its answers say of the whole input.
-use Prim.Native.Nat.{ℕ, _+_}
+use Prim.Native.Nat.{ℕ, _+_, _*_, _≤_}
 use mathlib.Core.List.{List, [], _∷_, _++_}
 use mathlib.Core.Path.{_≡_}
 use lib.ListN.{length, take, drop}
@@ -14,6 +14,7 @@ use Rattle.record.specs.declared.Record.{Record}
 use Rattle.record.specs.Frame.{Framed, framed, frame, frames}
 use Rattle.record.specs.Partition.{Truncated-at, Placed, Partition}
 
+-- what a call answers: a record, or none, or a refusal
 abbrev pub Reply : Type 0
 Reply = Result (Option Record) Refusal
 
@@ -21,7 +22,7 @@ Reply = Result (Option Record) Refusal
 abbrev pub left : Reader → List ℕ
 left reader = drop (reader .place) (reader .input .now)
 
--- the bytes left begin with the record, which the reader passes; its body is that very part of the input
+-- the bytes left begin with the record, which the reader passes; its body has the bytes that the input has after the head
 pub record Read (reader : Reader) (r : Record) (reader′ : Reader) : Type 0 where
   pub bytes : left reader ≡ frame (framed r) ++ left reader′
   pub place : r .place ≡ reader .place
@@ -39,6 +40,7 @@ pub record Stopped (reader : Reader) (e : Refusal) (reader′ : Reader) : Type 0
   pub truncated : Truncated-at (left reader)
   pub stays : reader′ .place ≡ reader .place
 
+-- what each answer says of the reader before the call and after it
 abbrev pub Replied : Reader → Reply → Reader → Type 0
 Replied reader (Ok (Some r)) reader′ = Read reader r reader′
 Replied reader (Ok None) reader′ = Ended reader reader′
@@ -81,6 +83,8 @@ pub data Calls : Reader → List Framed → Reader → Type 0 where
 -- after any calls the records handed out follow those passed before, and where the last call hands out none, they are all
 pub record Continues (reader : Reader) : Type 0 where
   pub input : (rs : List Framed) (reader′ : Reader) → Calls reader rs reader′ → reader′ .input .now ≡ reader .input .now
+  -- reading on always ends: each record handed out takes four bytes or more of those from the reader's place on
+  pub ends : (rs : List Framed) (reader′ : Reader) → Calls reader rs reader′ → reader .place + 4 * length rs ≤ length (reader .input .now)
   pub recorded : (before rs : List Framed) (reader′ : Reader) → Recorded before reader → Calls reader rs reader′ →
       Recorded (before ++ rs) reader′
   pub whole : (before rs : List Framed) (reader′ : Reader) (reply : Reply) (reader″ : Reader) → Recorded before reader →

@@ -15,7 +15,7 @@ pub struct Record<'a> {
     // The byte of the input at which the record begins.
     pub place: usize,
     pub kind: u16,
-    // The part of the input after the record's head.
+    // The bytes after the record's head.
     pub body: &'a [u8],
 }
 

@@ -8,8 +8,8 @@ ghost use Rattle.record.specs.Reads.{Recorded, Continues};
 use super::Reader;
 
 impl<'a> Reader<'a> {
-    // A reader at the start of the input. The records that it will hand out are the input's own: every input is records
-    // and a rest in just one way.
+    // A reader at the start of the input. The records that it will hand out are those of the input: every input is
+    // records and a rest in just one way.
     pub fn new(input: &'a [u8]) -> Reader<'a>
         ensures input { λ r. ⌜ r .input .now ≡ now (input .entry) ⌝ }
         ensures place { λ r. ⌜ r .place ≡ 0 ⌝ }

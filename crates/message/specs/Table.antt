@@ -42,7 +42,7 @@ pub record Begins (t : Messages) : Type 0 where
   pub carrying : Carrying
   pub numbers : Numbers-agree
 
--- what is stored under the number n: it means that message, over parts with smaller numbers
+-- what is stored under the number n: it means that message, and the parts of a compound have smaller numbers
 pub record Stands (ms : List Message) (n : ℕ) (s : Stored) : Type 0 where
   pub there : n < length ms
   pub means : value ms s ≡ at ms n

@@ -28,7 +28,7 @@ impl Messages {
         self.entries.len()
     }
 
-    // The message with this number: its parts have smaller numbers.
+    // The message with this number. The parts of a compound have smaller numbers.
     pub fn get(&self, number: u16) -> Option<Stored>
         ensures { λ r. ⌜ Cases r (length (messages-of (now (self .entry))) ≤ number) (Stands (messages-of (now (self .entry))) number) ⌝ }
     {

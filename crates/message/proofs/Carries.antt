@@ -26,26 +26,26 @@ parted : {P Q : Type 0} (a b : Bool) → (P → a ≡ true) → (Q → b ≡ tru
 parted a b p q (inl x) = or-left a b (p x)
 parted a b p q (inr y) = or-right a b (q y)
 
-pub carries-carried : (t m : Message) → is-carried t m ≡ true → Carried t m
-carries-carried t (symbol s n) e = same-true _ _ e
-carries-carried t (inverse-key n) e = same-true _ _ e
-carries-carried t (compound Pair x y) e =
-    joined (same t (compound Pair x y)) _ (same-true _ _) (joined (is-carried t x) (is-carried t y) (carries-carried t x) (carries-carried t y)) e
-carries-carried t (compound AsymmetricEncryption x k) e = joined (same t (compound AsymmetricEncryption x k)) _ (same-true _ _) (carries-carried t x) e
-carries-carried t (compound SymmetricEncryption x k) e = joined (same t (compound SymmetricEncryption x k)) _ (same-true _ _) (carries-carried t x) e
+pub test-carried : (t m : Message) → is-carried t m ≡ true → Carried t m
+test-carried t (symbol s n) e = same-true _ _ e
+test-carried t (inverse-key n) e = same-true _ _ e
+test-carried t (compound Pair x y) e =
+    joined (same t (compound Pair x y)) _ (same-true _ _) (joined (is-carried t x) (is-carried t y) (test-carried t x) (test-carried t y)) e
+test-carried t (compound AsymmetricEncryption x k) e = joined (same t (compound AsymmetricEncryption x k)) _ (same-true _ _) (test-carried t x) e
+test-carried t (compound SymmetricEncryption x k) e = joined (same t (compound SymmetricEncryption x k)) _ (same-true _ _) (test-carried t x) e
 
-pub carried-is-carried : (t m : Message) → Carried t m → is-carried t m ≡ true
-carried-is-carried t (symbol s n) c = true-same _ _ c
-carried-is-carried t (inverse-key n) c = true-same _ _ c
-carried-is-carried t (compound Pair x y) c =
-    parted (same t (compound Pair x y)) _ (true-same _ _) (parted (is-carried t x) (is-carried t y) (carried-is-carried t x) (carried-is-carried t y)) c
-carried-is-carried t (compound AsymmetricEncryption x k) c = parted (same t (compound AsymmetricEncryption x k)) _ (true-same _ _) (carried-is-carried t x) c
-carried-is-carried t (compound SymmetricEncryption x k) c = parted (same t (compound SymmetricEncryption x k)) _ (true-same _ _) (carried-is-carried t x) c
+pub carried-test : (t m : Message) → Carried t m → is-carried t m ≡ true
+carried-test t (symbol s n) c = true-same _ _ c
+carried-test t (inverse-key n) c = true-same _ _ c
+carried-test t (compound Pair x y) c =
+    parted (same t (compound Pair x y)) _ (true-same _ _) (parted (is-carried t x) (is-carried t y) (carried-test t x) (carried-test t y)) c
+carried-test t (compound AsymmetricEncryption x k) c = parted (same t (compound AsymmetricEncryption x k)) _ (true-same _ _) (carried-test t x) c
+carried-test t (compound SymmetricEncryption x k) c = parted (same t (compound SymmetricEncryption x k)) _ (true-same _ _) (carried-test t x) c
 
 pub tells : (t m : Message) (answer : Bool) → answer ≡ is-carried t m → Tells t m answer
 tells t m answer is = record {
   test = is;
-  relation = (λ e. carries-carried t m (sym is ∙ e), λ c. is ∙ carried-is-carried t m c);
+  relation = (λ e. test-carried t m (sym is ∙ e), λ c. is ∙ carried-test t m c);
 }
 
 not-same : {m n : Message} → (m ≡ n → ⊥) → same m n ≡ false
@@ -58,7 +58,7 @@ not-same {m} {n} apart = by (same m n) refl
 -- by numbers: of the message itself
 pub tells-itself : (ms : List Message) (inner outer : ℕ) → inner ≡ outer → Tells (at ms inner) (at ms outer) true
 tells-itself ms inner outer e =
-    tells (at ms inner) (at ms outer) true (sym (carried-is-carried (at ms inner) (at ms outer) (subst (λ (n : ℕ). Carried (at ms inner) (at ms n)) e (carried-itself (at ms inner)))))
+    tells (at ms inner) (at ms outer) true (sym (carried-test (at ms inner) (at ms outer) (subst (λ (n : ℕ). Carried (at ms inner) (at ms n)) e (carried-itself (at ms inner)))))
 
 -- and of another, by its parts
 pub tells-inside : (t : Messages) (inner outer : ℕ) → inner < length (messages-of t) → outer < length (messages-of t) → (inner ≡ outer → ⊥) →

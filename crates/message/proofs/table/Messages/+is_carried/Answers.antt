@@ -6,7 +6,7 @@ use Rattle.message.specs.Table.{messages-of}
 use Rattle.message.proofs.Carries.{tells-itself, tells-inside}
 use Rattle.message.proofs.table.Messages.+is_carried.Needs as need
 
--- one part is-carried it, or only the other can
+-- the first part carries it, or only the other can
 one-part : (a b r : Bool) → r ≡ a → r ≡ true → r ≡ (a || b)
 one-part true b r e t = e
 one-part false b r e t = absurd (true≢false (sym t ∙ e))

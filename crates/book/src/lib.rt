@@ -1,4 +1,6 @@
 // A book: what stands of a run, and the calls that put it there and take it out.
+#![tactic(auto)]
+
 pub mod book;
 mod calls;
 mod names;

@@ -1,6 +1,8 @@
 // Reads records of calls from standard input, makes the calls on a book, and prints a line for each: where the record
 // begins, the call in words, and the reply. A record that is cut short, or that is no call's, ends the reading. At the end
 // it prints what stands.
+#![tactic(auto)]
+
 mod claim;
 mod naming;
 mod reply;

@@ -1,4 +1,6 @@
 // Hand-ins: the calls that records stand for, and making them on a book.
+#![tactic(auto)]
+
 pub mod call;
 mod fields;
 mod kind;

@@ -1,4 +1,6 @@
 // Lists of entries in the order in which they came, at most a given number of them. One that stands is not put in again.
+#![tactic(auto)]
+
 mod enter;
 mod listing;
 mod lookup;

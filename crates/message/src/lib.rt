@@ -1,4 +1,6 @@
 // Messages: the algebra of keys, data, tags, pairs and encryptions, and the table that numbers them.
+#![tactic(auto)]
+
 mod carried;
 mod enter;
 mod form;

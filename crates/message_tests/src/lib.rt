@@ -1,4 +1,6 @@
 // Examples of the table of messages, run. The crate is apart from `message` so that its checks stay short.
+#![tactic(auto)]
+
 #[cfg(test)]
 mod tests {
     use message::stored::Sort;

@@ -1,5 +1,7 @@
 // Reads records of calls from standard input and prints a line for each: where the record begins, the call in words, and
 // the reply. A record that is cut short, or that is no call's, ends the reading.
+#![tactic(auto)]
+
 mod call;
 mod spelled;
 

@@ -1,5 +1,7 @@
 // A file is a sequence of records, one after the other. A record is a head of four bytes and a body: two bytes for the
 // body's length, two for the record's kind, then the body. Each number has sixteen bits, its low byte first.
+#![tactic(auto)]
+
 ghost use Rattle.std.specs.Prelude.{◌≤◌, length};
 
 mod fields;

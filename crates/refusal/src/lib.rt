@@ -1,5 +1,7 @@
 // Why a call, a record or a file is refused. Every refusal has a row: its number in the table of refusals that the
 // formats and the printed lines use (docs/RULES.md). A call tests its rows from the lowest up and answers the first that fits.
+#![tactic(auto)]
+
 ghost use Rattle.std.specs.Prelude.{◌≡◌, Some};
 ghost use Rattle.refusal.specs.Rows.{row};
 ghost use Rattle.refusal.specs.Words.{in_words};

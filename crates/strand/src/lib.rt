@@ -1,4 +1,6 @@
 // Strands: events, nodes and their codes, the strands of a book, and the trace of a strand.
+#![tactic(auto)]
+
 pub mod event;
 mod lookup;
 pub mod node;

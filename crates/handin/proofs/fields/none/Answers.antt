@@ -7,4 +7,4 @@ use Rattle.handin.proofs.fields.none.Goals as goal
 pub returns : goal.returns
 returns c =
     let body = c.args.record.now.body.now in
-    (λ e. nil_from_length body (eqb-true (length body) 0 (sym c.is-empty.ensures ∙ e)), λ e. c.is-empty.ensures ∙ eq-eqb (length body) 0 e)
+    (λ e. nil_from_length body (eqb-true (length body) 0 (sym c.is_empty.ensures ∙ e)), λ e. c.is_empty.ensures ∙ eq-eqb (length body) 0 e)

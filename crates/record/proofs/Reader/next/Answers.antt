@@ -7,14 +7,14 @@ use Rattle.record.specs.Reads.{left}
 use Rattle.record.proofs.Readings.{answered}
 use Rattle.record.proofs.Reader.next.Goals as goal
 
-pub returns-then-is-empty : goal.returns-then-is-empty
-returns-then-is-empty c =
+pub returns-then-is_empty : goal.returns-then-is_empty
+returns-then-is_empty c =
     let n = length-drop c.args.self.now.place c.args.self.now.input.now in
-    let e = simp take_rest at c.if-is-empty.ensures in
+    let e = simp take_rest at c.if-is_empty.ensures in
     answered (record { input = refl; replied = record { all = grind (arith, nat_tests); stays = refl } })
 
-pub returns-in-default : goal.returns-in-default
-returns-in-default c =
-    let e = simp take_rest at c.if-is-empty.ensures in
+pub returns-in_default : goal.returns-in_default
+returns-in_default c =
+    let e = simp take_rest at c.if-is_empty.ensures in
     let cut : TruncatedAt (left c.args.self.now) = record { some = grind (arith, nat_tests); short = inl (search (rules, length-drop)) } in
     answered (record { input = refl; replied = record { row_one = refl; truncated = cut; stays = refl } })

@@ -8,11 +8,11 @@ use Rattle.record.proofs.Frames.{length_rest}
 use Rattle.record.proofs.Readings.{answered, read}
 use Rattle.record.proofs.Reader.take.Goals as goal
 
-pub returns-in-default : goal.returns-in-default
-returns-in-default c =
+pub returns-in_default : goal.returns-in_default
+returns-in_default c =
     let bytes = left c.args.self.now in
     let h : Head bytes c.args.size c.args.kind c.args.rest.now = rw take_rest at c.requires in
-    let short = c.in-default.ensures.cases in
+    let short = c.in_default.ensures.cases in
     let cut : TruncatedAt bytes = record { some = omega arith; short = inr (omega (arith, length_rest h)) } in
     answered (record { input = refl; replied = record { row_one = refl; truncated = cut; stays = refl } })
 

@@ -14,22 +14,22 @@ use Rattle.book.proofs.Kept.{within_added}
 use Rattle.book.proofs.Records.{answered}
 use Rattle.book.proofs.book.Book.add_event.Goals as goal
 
-pub returns-in-err-event : goal.returns-in-err-event
-returns-in-err-event c =
+pub returns-in_err-event : goal.returns-in_err-event
+returns-in_err-event c =
     let b = c.args.self.now in
-    let p = err_from_is_err_and c.from-residual.result c.from-residual.ensures.1 in
-    let d = add_refused (entries b) c.args.strand c.args.sign c.args.way c.args.message _ c.in-err-event.ensures in
+    let p = err_from_is_err_and c.from_residual.result c.from_residual.ensures.1 in
+    let d = add_refused (entries b) c.args.strand c.args.sign c.args.way c.args.message _ c.in_err-event.ensures in
     answered (record {
       reply = ap by_row (p.1 ∙ ap {B = Result ℕ Refusal} Err p.2) ∙ sym d;
       holds = stays _ (entries b) _ d;
       memory = refl;
     })
 
-pub invariant-of-self : goal.invariant-of-self
-invariant-of-self c =
+pub invariant_of-self : goal.invariant_of-self
+invariant_of-self c =
     let b = c.args.self.now in
-    let x = c.in-ok-event.event in
-    let d = c.in-ok-event.ensures in (
+    let x = c.in_ok-event.event in
+    let d = c.in_ok-event.ensures in (
       within_added (messages_of b.messages) (strands_of b.strands) _ b.events_within c.args.strand x
           (subst (λ (y : Event ℕ). y.message < length (messages_of b.messages)) (sym d.3) d.2)
           c.add.result c.add.ensures.added,
@@ -39,8 +39,8 @@ invariant-of-self c =
 pub returns : goal.returns
 returns c =
     let b = c.args.self.now in
-    let x = c.in-ok-event.event in
-    let d = c.in-ok-event.ensures in
+    let x = c.in_ok-event.event in
+    let d = c.in_ok-event.ensures in
     answered (record {
       reply = add_replied (entries b) c.args.strand c.args.sign c.args.way c.args.message (strands_of b.strands) _ refl x d c.add.result c.add.ensures.added;
       holds = add_stands (entries b) c.args.strand c.args.sign c.args.way c.args.message (strands_of b.strands) _ refl x d c.add.result c.add.ensures.added;

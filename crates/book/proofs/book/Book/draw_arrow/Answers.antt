@@ -15,14 +15,14 @@ use Rattle.book.proofs.Drawing.{draw_does, draw_refused}
 use Rattle.book.proofs.Records.{answered}
 use Rattle.book.proofs.book.Book.draw_arrow.Goals as goal
 
-pub returns-in-default : goal.returns-in-default
-returns-in-default c =
+pub returns-in_default : goal.returns-in_default
+returns-in_default c =
     let b = c.args.self.now in
-    let d = draw_refused (entries b) (strands_of b.strands) refl c.args.from c.args.to c.in-default.ensures in
+    let d = draw_refused (entries b) (strands_of b.strands) refl c.args.from c.args.to c.in_default.ensures in
     answered (record { reply = sym d; holds = stays _ (entries b) _ d; memory = refl })
 
-pub invariant-of-self : goal.invariant-of-self
-invariant-of-self c =
+pub invariant_of-self : goal.invariant_of-self
+invariant_of-self c =
     let b = c.args.self.now in (
       b.events_within,
       (

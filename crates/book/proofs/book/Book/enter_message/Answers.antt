@@ -12,8 +12,8 @@ use Rattle.book.proofs.Entering.{assumptions_grown, grows, traces_grown}
 use Rattle.book.proofs.Records.{answered}
 use Rattle.book.proofs.book.Book.enter_message.Goals as goal
 
-pub invariant-of-self : goal.invariant-of-self
-invariant-of-self c =
+pub invariant_of-self : goal.invariant_of-self
+invariant_of-self c =
     let b = c.args.self.now in
     let more : length (messages_of b.messages) ≤ length (messages_of c.enter.new.self) =
     let g = grows (messages_of b.messages) c.args.form c.args.x c.args.y in omega (arith, ap length c.enter.ensures.entered.stands_after) in

@@ -12,8 +12,8 @@ use Rattle.book.proofs.book.Book.lend.Goals as goal
 long : (b : Book) → length (map (trace (messages_of b.messages)) (strands_of b.strands)) ≡ length (strands_of b.strands)
 long b = length-map (strands_of b.strands) (trace (messages_of b.messages))
 
-pub returns-in-default : goal.returns-in-default
-returns-in-default c = omega (arith, long c.args.self.now, c.in-default.ensures)
+pub returns-in_default : goal.returns-in_default
+returns-in_default c = omega (arith, long c.args.self.now, c.in_default.ensures)
 
 pub returns : goal.returns
 returns c =

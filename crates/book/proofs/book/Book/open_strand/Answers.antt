@@ -9,8 +9,8 @@ use Rattle.book.proofs.Opening.{open_replied, open_stands}
 use Rattle.book.proofs.Records.{answered}
 use Rattle.book.proofs.book.Book.open_strand.Goals as goal
 
-pub invariant-of-self : goal.invariant-of-self
-invariant-of-self c =
+pub invariant_of-self : goal.invariant_of-self
+invariant_of-self c =
     let b = c.args.self.now in (
       within_opened (messages_of b.messages) (strands_of b.strands) _ b.events_within c.«open».result c.«open».ensures.opened,
       (b.values_within, (b.arrows_once, (b.assumptions_once, tt))),

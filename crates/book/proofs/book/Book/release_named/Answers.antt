@@ -15,28 +15,28 @@ use Rattle.book.proofs.Kept.{within_removed}
 use Rattle.book.proofs.Records.{answered}
 use Rattle.book.proofs.book.Book.release_named.Goals as goal
 
-pub returns-in-err-assumption : goal.returns-in-err-assumption
-returns-in-err-assumption c =
+pub returns-in_err-assumption : goal.returns-in_err-assumption
+returns-in_err-assumption c =
     let b = c.args.self.now in
-    let p = err_from_is_err_and c.from-residual.result c.from-residual.ensures.1 in
-    let d = release_refused (entries b) (strands_of b.strands) refl c.args.kind c.args.value c.args.origin _ c.in-err-assumption.ensures in
+    let p = err_from_is_err_and c.from_residual.result c.from_residual.ensures.1 in
+    let d = release_refused (entries b) (strands_of b.strands) refl c.args.kind c.args.value c.args.origin _ c.in_err-assumption.ensures in
     answered (record {
       reply = ap by_row (p.1 ∙ ap {B = Result ℕ Refusal} Err p.2) ∙ sym d;
       holds = stays _ (entries b) _ d;
       memory = refl;
     })
 
-pub invariant-of-self : goal.invariant-of-self
-invariant-of-self c =
+pub invariant_of-self : goal.invariant_of-self
+invariant_of-self c =
     let b = c.args.self.now in (
       b.events_within,
       (
-        within_removed (messages_of b.messages) (entries_of b.assumptions) _ b.values_within c.in-ok-assumption.assumption
+        within_removed (messages_of b.messages) (entries_of b.assumptions) _ b.values_within c.in_ok-assumption.assumption
             c.remove.result c.remove.ensures.removed,
         (
           b.arrows_once,
           (
-            once_removed (same_by eqb) no_assumption (entries_of b.assumptions) b.assumptions_once c.in-ok-assumption.assumption _
+            once_removed (same_by eqb) no_assumption (entries_of b.assumptions) b.assumptions_once c.in_ok-assumption.assumption _
                 c.remove.result c.remove.ensures.removed,
             tt,
           ),
@@ -47,11 +47,11 @@ invariant-of-self c =
 pub returns : goal.returns
 returns c =
     let b = c.args.self.now in
-    let n = c.in-ok-assumption.ensures in
+    let n = c.in_ok-assumption.ensures in
     let d = c.remove.ensures.removed in
     let s =
     release_does (entries b) (strands_of b.strands) refl c.args.kind c.args.value c.args.origin
-    b.messages.once (entries_of b.assumptions) _ b.values_within refl c.in-ok-assumption.assumption n c.remove.result d in
+    b.messages.once (entries_of b.assumptions) _ b.values_within refl c.in_ok-assumption.assumption n c.remove.result d in
     answered (record {
       reply = ap by_row c.answer.ensures ∙ s.0;
       holds = s.1;

@@ -4,4 +4,4 @@ use Rattle.handin.proofs.Counts.{call_of}
 use Rattle.handin.proofs.call.Call.found.Goals as goal
 
 pub returns : goal.returns
-returns c = call_of (framed c.args.record.now) c.in-Some.kind c.of-kind.result c.in-Some.ensures c.of-kind.ensures
+returns c = call_of (framed c.args.record.now) c.in-Some.kind c.of_kind.result c.in-Some.ensures c.of_kind.ensures

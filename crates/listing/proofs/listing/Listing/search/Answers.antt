@@ -10,4 +10,4 @@ returns g c =
     let same = g.T.Same.same in
     let x = c.args.entry.now in
     first_place same x (entries_of c.args.self.now) _
-    (subst (λ xs. First same x xs c.first-same.result) c.as-slice.ensures.value c.first-same.ensures)
+    (subst (λ xs. First same x xs c.first_same.result) c.as_slice.ensures.value c.first_same.ensures)

@@ -27,12 +27,12 @@ returns-in-Content t c =
     tells_inside c.args.self.now c.args.inner c.args.outer c.requires.inner c.requires.outer c.if-inner-outer.false c.in-Some.stored _ _
     c.in-Some.ensures.means c.in-Content.ensures c.is_carried.ensures.test
 
-pub returns-then-is-carried : goal.returns-then-is-carried
-returns-then-is-carried t c =
+pub returns-then-is_carried : goal.returns-then-is_carried
+returns-then-is_carried t c =
     tells_inside c.args.self.now c.args.inner c.args.outer c.requires.inner c.requires.outer c.if-inner-outer.false c.in-Some.stored _ _
-    c.in-Some.ensures.means c.in-Both.ensures (one_part _ _ _ c.is-carried-in-Both.ensures.test c.if-is-carried.true)
+    c.in-Some.ensures.means c.in-Both.ensures (one_part _ _ _ c.is_carried-in-Both.ensures.test c.if-is_carried.true)
 
-pub returns-else-is-carried : goal.returns-else-is-carried
-returns-else-is-carried t c =
+pub returns-else-is_carried : goal.returns-else-is_carried
+returns-else-is_carried t c =
     tells_inside c.args.self.now c.args.inner c.args.outer c.requires.inner c.requires.outer c.if-inner-outer.false c.in-Some.stored _ _
-    c.in-Some.ensures.means c.in-Both.ensures (other_part _ _ _ _ c.is-carried-in-Both.ensures.test c.if-is-carried.false c.is-carried-else-is-carried.ensures.test)
+    c.in-Some.ensures.means c.in-Both.ensures (other_part _ _ _ _ c.is_carried-in-Both.ensures.test c.if-is_carried.false c.is_carried-else-is_carried.ensures.test)

@@ -3,19 +3,19 @@ use Rattle.std.proofs.Common.{vec_items, arith}
 use Rattle.strand.proofs.Rows.{counted, opened, short}
 use Rattle.strand.proofs.strand.Strands.push_empty.Goals as goal
 
-pub invariant-of-self : goal.invariant-of-self
-invariant-of-self c =
+pub invariant_of-self : goal.invariant_of-self
+invariant_of-self c =
     let t = c.args.self.now in
-    let v = c.push-reserved.new.self in (
-      omega (arith, c.push-reserved.ensures.capacity, t.room),
-      (omega (arith, c.push-reserved.ensures.len, c.requires, t.counted), (counted v, (short (vec_items v), tt))),
+    let v = c.push_reserved.new.self in (
+      omega (arith, c.push_reserved.ensures.capacity, t.room),
+      (omega (arith, c.push_reserved.ensures.len, c.requires, t.counted), (counted v, (short (vec_items v), tt))),
     )
 
 pub returns : goal.returns
 returns c =
     let t = c.args.self.now in
-    let v = c.push-reserved.new.self in
+    let v = c.push_reserved.new.self in
     record {
-      strands = opened (vec_items t.strands) c.empty.result (vec_items v) c.push-reserved.ensures.items c.empty.ensures;
-      memory = c.push-reserved.ensures.capacity;
+      strands = opened (vec_items t.strands) c.empty.result (vec_items v) c.push_reserved.ensures.items c.empty.ensures;
+      memory = c.push_reserved.ensures.capacity;
     }

@@ -11,10 +11,10 @@ push-requires c =
     let t = c.args.self.now in
     let there : c.args.strand < length (vec_items t.strands) = omega (arith, c.requires.there, t.counted, t.strands.ok.0) in
     subst (λ (es : List (Event ℕ)). length es < event_limit)
-    (sym (events_at (vec_items t.strands) c.args.strand c.index-mut.result.now there c.index-mut.ensures.value)) c.requires.room
+    (sym (events_at (vec_items t.strands) c.args.strand c.index_mut.result.now there c.index_mut.ensures.value)) c.requires.room
 
-pub invariant-of-self : goal.invariant-of-self
-invariant-of-self c =
+pub invariant_of-self : goal.invariant_of-self
+invariant_of-self c =
     let t = c.args.self.now in
     let v = with_item t.strands c.args.strand c.push.new.self in (t.room, (t.few, (counted v, (short (vec_items v), tt))))
 
@@ -23,6 +23,6 @@ returns c =
     let t = c.args.self.now in
     let there : c.args.strand < length (vec_items t.strands) = omega (arith, c.requires.there, t.counted, t.strands.ok.0) in
     record {
-      strands = added (vec_items t.strands) c.args.strand c.index-mut.result.now c.push.new.self c.args.event there c.index-mut.ensures.value c.push.ensures;
+      strands = added (vec_items t.strands) c.args.strand c.index_mut.result.now c.push.new.self c.args.event there c.index_mut.ensures.value c.push.ensures;
       memory = refl;
     }

@@ -29,12 +29,16 @@ pub invariant_of-self : goal.invariant_of-self
 invariant_of-self c =
     let b = c.args.self.now in
     let x = c.in_ok-event.event in
-    let d = c.in_ok-event.ensures in (
-      within_added (messages_of b.messages) (strands_of b.strands) _ b.events_within c.args.strand x
+    let d = c.in_ok-event.ensures in
+    record {
+      events_within =
+          within_added (messages_of b.messages) (strands_of b.strands) _ b.events_within c.args.strand x
           (subst (λ (y : Event ℕ). y.message < length (messages_of b.messages)) (sym d.3) d.2)
-          c.add.result c.add.ensures.added,
-      (b.values_within, (b.arrows_once, (b.assumptions_once, tt))),
-    )
+          c.add.result c.add.ensures.added;
+      values_within = b.values_within;
+      arrows_once = b.arrows_once;
+      assumptions_once = b.assumptions_once;
+    }
 
 pub returns : goal.returns
 returns c =

@@ -28,21 +28,17 @@ returns-in_err-assumption c =
 
 pub invariant_of-self : goal.invariant_of-self
 invariant_of-self c =
-    let b = c.args.self.now in (
-      b.events_within,
-      (
-        within_appended (messages_of b.messages) (entries_of b.assumptions) _ b.values_within c.in_ok-assumption.assumption c.in_ok-assumption.ensures.2
-            c.append.result c.append.ensures.appended,
-        (
-          b.arrows_once,
-          (
-            once_appended (same_by eqb) no_assumption (entries_of b.assumptions) b.assumptions_once 256 c.in_ok-assumption.assumption _
-                c.append.result c.append.ensures.appended,
-            tt,
-          ),
-        ),
-      ),
-    )
+    let b = c.args.self.now in
+    record {
+      events_within = b.events_within;
+      values_within =
+          within_appended (messages_of b.messages) (entries_of b.assumptions) _ b.values_within c.in_ok-assumption.assumption c.in_ok-assumption.ensures.2
+          c.append.result c.append.ensures.appended;
+      arrows_once = b.arrows_once;
+      assumptions_once =
+          once_appended (same_by eqb) no_assumption (entries_of b.assumptions) b.assumptions_once 256 c.in_ok-assumption.assumption _
+          c.append.result c.append.ensures.appended;
+    }
 
 pub returns : goal.returns
 returns c =

@@ -23,16 +23,13 @@ returns-in_default c =
 
 pub invariant_of-self : goal.invariant_of-self
 invariant_of-self c =
-    let b = c.args.self.now in (
-      b.events_within,
-      (
-        b.values_within,
-        (
-          once_appended same_arrow no_arrow (entries_of b.arrows) b.arrows_once 1024 c.in-Some.arrow _ c.append.result c.append.ensures.appended,
-          (b.assumptions_once, tt),
-        ),
-      ),
-    )
+    let b = c.args.self.now in
+    record {
+      events_within = b.events_within;
+      values_within = b.values_within;
+      arrows_once = once_appended same_arrow no_arrow (entries_of b.arrows) b.arrows_once 1024 c.in-Some.arrow _ c.append.result c.append.ensures.appended;
+      assumptions_once = b.assumptions_once;
+    }
 
 pub returns : goal.returns
 returns c =

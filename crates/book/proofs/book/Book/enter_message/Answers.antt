@@ -17,7 +17,12 @@ invariant_of-self c =
     let b = c.args.self.now in
     let more : length (messages_of b.messages) ≤ length (messages_of c.enter.new.self) =
     let g = grows (messages_of b.messages) c.args.form c.args.x c.args.y in omega (arith, ap length c.enter.ensures.entered.stands_after) in
-    ((λ s k h. let w = b.events_within s k h in omega (arith, more)), ((λ k h. let w = b.values_within k h in omega (arith, more)), (b.arrows_once, (b.assumptions_once, tt))))
+    record {
+      events_within = λ s k h. let w = b.events_within s k h in omega (arith, more);
+      values_within = λ k h. let w = b.values_within k h in omega (arith, more);
+      arrows_once = b.arrows_once;
+      assumptions_once = b.assumptions_once;
+    }
 
 pub returns : goal.returns
 returns c =

@@ -11,10 +11,13 @@ use Rattle.book.proofs.book.Book.open_strand.Goals as goal
 
 pub invariant_of-self : goal.invariant_of-self
 invariant_of-self c =
-    let b = c.args.self.now in (
-      within_opened (messages_of b.messages) (strands_of b.strands) _ b.events_within c.«open».result c.«open».ensures.opened,
-      (b.values_within, (b.arrows_once, (b.assumptions_once, tt))),
-    )
+    let b = c.args.self.now in
+    record {
+      events_within = within_opened (messages_of b.messages) (strands_of b.strands) _ b.events_within c.«open».result c.«open».ensures.opened;
+      values_within = b.values_within;
+      arrows_once = b.arrows_once;
+      assumptions_once = b.assumptions_once;
+    }
 
 pub returns : goal.returns
 returns c =

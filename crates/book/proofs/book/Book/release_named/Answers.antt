@@ -28,21 +28,17 @@ returns-in_err-assumption c =
 
 pub invariant_of-self : goal.invariant_of-self
 invariant_of-self c =
-    let b = c.args.self.now in (
-      b.events_within,
-      (
-        within_removed (messages_of b.messages) (entries_of b.assumptions) _ b.values_within c.in_ok-assumption.assumption
-            c.remove.result c.remove.ensures.removed,
-        (
-          b.arrows_once,
-          (
-            once_removed (same_by eqb) no_assumption (entries_of b.assumptions) b.assumptions_once c.in_ok-assumption.assumption _
-                c.remove.result c.remove.ensures.removed,
-            tt,
-          ),
-        ),
-      ),
-    )
+    let b = c.args.self.now in
+    record {
+      events_within = b.events_within;
+      values_within =
+          within_removed (messages_of b.messages) (entries_of b.assumptions) _ b.values_within c.in_ok-assumption.assumption
+          c.remove.result c.remove.ensures.removed;
+      arrows_once = b.arrows_once;
+      assumptions_once =
+          once_removed (same_by eqb) no_assumption (entries_of b.assumptions) b.assumptions_once c.in_ok-assumption.assumption _
+          c.remove.result c.remove.ensures.removed;
+    }
 
 pub returns : goal.returns
 returns c =

@@ -8,5 +8,5 @@ use Rattle.strand.proofs.strand.Strand.event.Goals as goal
 pub returns : goal.returns
 returns c =
     c.copied.ensures
-    ∙ (event_found c.events.result.now c.args.index c.get.result c.get.ensures.finds
+    ∙ (event_found c.events.result.now c.args.index c.get.result c.get.ensures.lookup
     ∙ ap (λ (es : List (Event ℕ)). slice_get es c.args.index) c.events.ensures)

@@ -6,10 +6,13 @@ use Rattle.strand.proofs.strand.Strands.push_empty.Goals as goal
 pub invariant_of-self : goal.invariant_of-self
 invariant_of-self c =
     let t = c.args.self.now in
-    let v = c.push_reserved.new.self in (
-      omega (arith, c.push_reserved.ensures.capacity, t.room),
-      (omega (arith, c.push_reserved.ensures.len, c.requires, t.counted), (counted v, (short (vec_items v), tt))),
-    )
+    let v = c.push_reserved.new.self in
+    record {
+      room = omega (arith, c.push_reserved.ensures.capacity, t.room);
+      few = omega (arith, c.push_reserved.ensures.len, c.requires, t.counted);
+      counted = counted v;
+      short = short (vec_items v);
+    }
 
 pub returns : goal.returns
 returns c =

@@ -16,7 +16,8 @@ push-requires c =
 pub invariant_of-self : goal.invariant_of-self
 invariant_of-self c =
     let t = c.args.self.now in
-    let v = with_item t.strands c.args.strand c.push.new.self in (t.room, (t.few, (counted v, (short (vec_items v), tt))))
+    let v = with_item t.strands c.args.strand c.push.new.self in
+    record { room = t.room; few = t.few; counted = counted v; short = short (vec_items v) }
 
 pub returns : goal.returns
 returns c =

@@ -1,6 +1,6 @@
 -- Whatever calls are made, what stands is orderly.
 use Rattle.std.proofs.Common.{ℕ, ◌≤◌, List, [], ◌∷◌, length, arith}
-use Rattle.std.specs.List.{ContainsAt as Has, AllByRecursion as All}
+use Rattle.std.specs.List.{ContainsAt as Has, AllByRecursion}
 use Rattle.std.proofs.lemmas.Bool.{not-false, or_parts}
 use Rattle.message.specs.Message.{Message}
 use Rattle.message.specs.Enter.{enter_rules, named, with_message}
@@ -48,7 +48,7 @@ orderly_none =
 
 module _ (e : Entries) (o : Orderly e) where
   -- other strands with every node that was there
-  strands_orderly : (ss : List Trace) → KeepsNodes e.strands ss → length ss ≤ strand_limit → All (StandingTrace e.messages) ss →
+  strands_orderly : (ss : List Trace) → KeepsNodes e.strands ss → length ss ≤ strand_limit → AllByRecursion (StandingTrace e.messages) ss →
       Orderly (with_strands e ss)
   strands_orderly ss nodes few traces =
       record {

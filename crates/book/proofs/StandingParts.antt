@@ -1,6 +1,6 @@
 -- `enter` puts messages together of messages that stand.
 use Rattle.std.proofs.Common.{◌≡◌, ℕ, ◌≤◌, true, false, eqb, List, [], ◌∷◌, ◌++◌, arith}
-use Rattle.std.specs.List.{ContainsAt as Has, AllByRecursion as All}
+use Rattle.std.specs.List.{ContainsAt as Has, AllByRecursion}
 use Rattle.std.proofs.ByRecursion.{all-has, All-push, All-weaker, has_append_left, has_get_or}
 use Rattle.std.proofs.lemmas.Bool.{and_parts, cond_both, eqb-false, eqb-true, le-leb, leb-true, ltb-true, not-false, or_parts}
 use Rattle.message.specs.declared.stored.Symbol.TheVariants.{AsymmetricKey, SymmetricKey, Datum, Tag}
@@ -25,7 +25,7 @@ inverse_parts ms (inverse_key n) there h = tt
 inverse_parts ms (compound o x y) there h = h
 
 module _ (ms : List Message) (form x y : ℕ) where
-  module _ (each : All (StandingParts ms) ms) (listed : unlisted form y ≡ false) (present : missing ms form x y ≡ false) where
+  module _ (each : AllByRecursion (StandingParts ms) ms) (listed : unlisted form y ≡ false) (present : missing ms form x y ≡ false) where
     first : 5 ≤ form → Has ms (at ms x)
     first l = has_get_or ms x (symbol AsymmetricKey 0) (ltb-true _ _ (asked _ _ (or_parts _ _ present).0 (le-leb 5 form l)))
 
@@ -57,13 +57,13 @@ module _ (ms : List Message) (form x y : ℕ) where
   abbrev m : Message
   m = named ms form x y
 
-  pub entered_parts : All (StandingParts ms) ms → NoneFits (enter_rules ms form x y) → All (StandingParts (with_message ms m)) (with_message ms m)
-  entered_parts each (listed, (present, rest)) = cond_both (stands ms m) _ _ (λ (ns : List Message). All (StandingParts ns) ns) (λ old. each) new
+  pub entered_parts : AllByRecursion (StandingParts ms) ms → NoneFits (enter_rules ms form x y) → AllByRecursion (StandingParts (with_message ms m)) (with_message ms m)
+  entered_parts each (listed, (present, rest)) = cond_both (stands ms m) _ _ (λ (ns : List Message). AllByRecursion (StandingParts ns) ns) (λ old. each) new
     where
       kept : (n : Message) → StandingParts ms n → StandingParts (ms ++ m ∷ []) n
       kept = parts_kept ms (ms ++ m ∷ []) (has_append_left ms (m ∷ []))
 
-      new : stands ms m ≡ false → All (StandingParts (ms ++ m ∷ [])) (ms ++ m ∷ [])
+      new : stands ms m ≡ false → AllByRecursion (StandingParts (ms ++ m ∷ [])) (ms ++ m ∷ [])
       new t =
           All-push (StandingParts (ms ++ m ∷ [])) ms m
           (All-weaker (StandingParts ms) (StandingParts (ms ++ m ∷ [])) kept ms each)

@@ -3,7 +3,6 @@ use super::words::InWords;
 use super::{INPUT_LIMIT, input};
 use handin::call::Call;
 use std::alloc::Global;
-use std::process::Abort;
 use std::test::Fail;
 
 #[test]
@@ -15,11 +14,14 @@ fn input_ends_at_the_limit(rt: HostRuntime) -> Result<(), Fail> {
 }
 
 // Checks how a call is printed.
-fn check_words(rt: &impl Abort, heap: Global, call: Call, words: &str) -> Result<(), Fail> {
+fn check_words(heap: Global, call: Call, words: &str) -> Result<(), Fail> {
     let call = InWords(call);
     let text = format!(in heap; "{call}")?;
-    assert_eq!(rt; text.as_str(), words);
-    Ok(())
+    if text.as_str() == words {
+        Ok(())
+    } else {
+        Err(Fail::new("other words"))
+    }
 }
 
 #[test]
@@ -29,14 +31,13 @@ fn what_is_not_listed_is_shown_by_number(rt: HostRuntime) -> Result<(), Fail> {
         x: 0,
         y: 0,
     };
-    check_words(&rt, rt.alloc(), form, "enter form 9, x 0, y 0")?;
+    check_words(rt.alloc(), form, "enter form 9, x 0, y 0")?;
     let origin = Call::Assume {
         kind: 3,
         value: 1,
         origin: (0, 2),
     };
     check_words(
-        &rt,
         rt.alloc(),
         origin,
         "assume kind 3, value 1, strand 0, index 2",
@@ -47,7 +48,6 @@ fn what_is_not_listed_is_shown_by_number(rt: HostRuntime) -> Result<(), Fail> {
         origin: (0, 0),
     };
     check_words(
-        &rt,
         rt.alloc(),
         kind,
         "release kind 5, value 1, strand 0, index 0",

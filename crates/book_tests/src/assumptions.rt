@@ -9,7 +9,7 @@ use std::test::Fail;
 
 #[test]
 fn what_no_strand_originates_is_a_basic_value(rt: HostRuntime) -> Result<(), Fail> {
-    let mut book = book_of(&rt, rt.alloc(), 1)?;
+    let mut book = book_of(rt.alloc(), 1)?;
     assert_eq!(rt;
         book.assume(NON_ORIGINATING, 1, (0, 0)),
         Err(Refusal::WrongSort)
@@ -24,7 +24,7 @@ fn what_no_strand_originates_is_a_basic_value(rt: HostRuntime) -> Result<(), Fai
 
 #[test]
 fn an_origin_is_named_in_kind_2_alone(rt: HostRuntime) -> Result<(), Fail> {
-    let mut book = book_of(&rt, rt.alloc(), 1)?;
+    let mut book = book_of(rt.alloc(), 1)?;
     assert_eq!(rt;
         book.assume(NON_ORIGINATING, 2, (0, 1)),
         Err(Refusal::NotListed)
@@ -48,7 +48,7 @@ fn an_origin_is_named_in_kind_2_alone(rt: HostRuntime) -> Result<(), Fail> {
 
 #[test]
 fn a_missing_origin_comes_before_a_wrong_sort(rt: HostRuntime) -> Result<(), Fail> {
-    let mut book = book_of(&rt, rt.alloc(), 1)?;
+    let mut book = book_of(rt.alloc(), 1)?;
     assert_eq!(rt;
         book.assume(UNIQUELY_ORIGINATING, 1, (0, 1)),
         Err(Refusal::NotThere)
@@ -63,7 +63,7 @@ fn a_missing_origin_comes_before_a_wrong_sort(rt: HostRuntime) -> Result<(), Fai
 
 #[test]
 fn channels_are_1_to_64(rt: HostRuntime) -> Result<(), Fail> {
-    let mut book = book_of(&rt, rt.alloc(), 0)?;
+    let mut book = book_of(rt.alloc(), 0)?;
     assert_eq!(rt;
         book.assume(AUTHENTICATED, 0, (0, 0)),
         Err(Refusal::NotThere)
@@ -83,7 +83,7 @@ fn channels_are_1_to_64(rt: HostRuntime) -> Result<(), Fail> {
 
 #[test]
 fn the_inverse_of_a_key_may_be_assumed(rt: HostRuntime) -> Result<(), Fail> {
-    let mut book = book_of(&rt, rt.alloc(), 0)?;
+    let mut book = book_of(rt.alloc(), 0)?;
     let key = book.enter(ASYMMETRIC_KEY, 0, 0)?;
     let inverse = book.enter(INVERSE, key, 0)?;
     assert_eq!(rt; book.assume(NON_ORIGINATING, inverse, (0, 0))?, 0);
@@ -93,7 +93,7 @@ fn the_inverse_of_a_key_may_be_assumed(rt: HostRuntime) -> Result<(), Fail> {
 
 #[test]
 fn equal_messages_entered_twice_are_assumed_once(rt: HostRuntime) -> Result<(), Fail> {
-    let mut book = book_of(&rt, rt.alloc(), 1)?;
+    let mut book = book_of(rt.alloc(), 1)?;
     let once = book.enter(DATUM, 9, 0)?;
     assert_eq!(rt; book.assume(UNIQUELY_ORIGINATING, once, (0, 0))?, 0);
     let again = book.enter(DATUM, 9, 0)?;
@@ -107,7 +107,7 @@ fn equal_messages_entered_twice_are_assumed_once(rt: HostRuntime) -> Result<(), 
 
 #[test]
 fn one_value_at_two_origins_is_two_assumptions(rt: HostRuntime) -> Result<(), Fail> {
-    let mut book = book_of(&rt, rt.alloc(), 2)?;
+    let mut book = book_of(rt.alloc(), 2)?;
     assert_eq!(rt; book.assume(UNIQUELY_ORIGINATING, 0, (0, 0))?, 0);
     assert_eq!(rt;
         book.release(UNIQUELY_ORIGINATING, 0, (1, 0)),
@@ -124,7 +124,7 @@ fn one_value_at_two_origins_is_two_assumptions(rt: HostRuntime) -> Result<(), Fa
 
 #[test]
 fn what_was_released_does_not_stand(rt: HostRuntime) -> Result<(), Fail> {
-    let mut book = book_of(&rt, rt.alloc(), 0)?;
+    let mut book = book_of(rt.alloc(), 0)?;
     assert_eq!(rt; book.assume(CONFIDENTIAL, 3, (0, 0))?, 0);
     assert_eq!(rt; book.release(CONFIDENTIAL, 3, (0, 0))?, 0);
     assert_eq!(rt;
@@ -137,7 +137,7 @@ fn what_was_released_does_not_stand(rt: HostRuntime) -> Result<(), Fail> {
 
 #[test]
 fn assumptions_behind_a_released_one_move_up(rt: HostRuntime) -> Result<(), Fail> {
-    let mut book = book_of(&rt, rt.alloc(), 1)?;
+    let mut book = book_of(rt.alloc(), 1)?;
     assert_eq!(rt; book.assume(AUTHENTICATED, 1, (0, 0))?, 0);
     assert_eq!(rt; book.assume(NON_ORIGINATING, 0, (0, 0))?, 1);
     assert_eq!(rt; book.assume(CONFIDENTIAL, 1, (0, 0))?, 2);

@@ -11,7 +11,7 @@ use strand::strand::EVENT_LIMIT;
 
 #[test]
 fn the_64th_strand_gets_63_and_a_65th_is_over_the_limit(rt: HostRuntime) -> Result<(), Fail> {
-    let mut book = book_of(&rt, rt.alloc(), 63)?;
+    let mut book = book_of(rt.alloc(), 63)?;
     assert_eq!(rt; book.open()?, 63);
     assert_eq!(rt; book.open(), Err(Refusal::OverLimit));
     assert_eq!(rt; book.strand_count(), 64);
@@ -20,7 +20,7 @@ fn the_64th_strand_gets_63_and_a_65th_is_over_the_limit(rt: HostRuntime) -> Resu
 
 #[test]
 fn a_17th_event_is_over_the_limit_and_16_stay(rt: HostRuntime) -> Result<(), Fail> {
-    let mut book = book_of(&rt, rt.alloc(), 1)?;
+    let mut book = book_of(rt.alloc(), 1)?;
     for index in 1..EVENT_LIMIT as u16 {
         assert_eq!(rt; book.add(0, RECEIVES, PLAIN, 0)?, index);
     }
@@ -35,7 +35,7 @@ fn a_17th_event_is_over_the_limit_and_16_stay(rt: HostRuntime) -> Result<(), Fai
 // From each of 16 nodes an arrow to each of 64 nodes: as many as a book holds.
 #[test]
 fn an_arrow_that_stands_comes_before_the_limit(rt: HostRuntime) -> Result<(), Fail> {
-    let mut book = book_of(&rt, rt.alloc(), 64)?;
+    let mut book = book_of(rt.alloc(), 64)?;
     for from in 0..16 {
         for to in 0..64 {
             let _ = book.draw((from, 0), (to, 0))?;

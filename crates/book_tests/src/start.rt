@@ -1,7 +1,6 @@
 // Books that the tests begin with, and the numbers of forms, signs, ways and kinds.
 use book::book::Book;
 use std::alloc::Global;
-use std::process::Abort;
 use std::test::Fail;
 
 // Forms of messages.
@@ -31,14 +30,23 @@ pub(crate) const AUTHENTICATED: u16 = 3;
 
 pub(crate) const CONFIDENTIAL: u16 = 4;
 
+// For what a test does not assert itself.
+pub(crate) fn check(holds: bool) -> Result<(), Fail> {
+    if holds {
+        Ok(())
+    } else {
+        Err(Fail::new("not as it should be"))
+    }
+}
+
 // Message 0 is a datum and message 1 a tag. Each of this many strands transmits the datum once.
-pub(crate) fn book_of(rt: &impl Abort, heap: Global, strands: u16) -> Result<Book, Fail> {
+pub(crate) fn book_of(heap: Global, strands: u16) -> Result<Book, Fail> {
     let mut book = Book::new(heap)?;
-    assert_eq!(rt; book.enter(DATUM, 0, 0)?, 0);
-    assert_eq!(rt; book.enter(TAG, 0, 0)?, 1);
+    check(book.enter(DATUM, 0, 0)? == 0)?;
+    check(book.enter(TAG, 0, 0)? == 1)?;
     for strand in 0..strands {
-        assert_eq!(rt; book.open()?, strand);
-        assert_eq!(rt; book.add(strand, TRANSMITS, PLAIN, 0)?, 0);
+        check(book.open()? == strand)?;
+        check(book.add(strand, TRANSMITS, PLAIN, 0)? == 0)?;
     }
     Ok(book)
 }

@@ -1,9 +1,8 @@
 // Strands, their events, and messages entered beside them.
-use crate::start::{DATUM, PAIR, PLAIN, RECEIVES, TRANSMITS, book_of};
+use crate::start::{DATUM, PAIR, PLAIN, RECEIVES, TRANSMITS, book_of, check};
 use book::book::Book;
 use message::stored::{Stored, Symbol};
 use refusal::Refusal;
-use std::process::Abort;
 use std::test::Fail;
 use strand::event::{Event, Sign, Way};
 
@@ -26,7 +25,7 @@ fn strand_0_of_a_new_book_is_not_there(rt: HostRuntime) -> Result<(), Fail> {
 
 #[test]
 fn events_come_in_order_on_their_own_strand(rt: HostRuntime) -> Result<(), Fail> {
-    let mut book = book_of(&rt, rt.alloc(), 2)?;
+    let mut book = book_of(rt.alloc(), 2)?;
     assert_eq!(rt; book.add(0, RECEIVES, 64, 1)?, 1);
     let events = book.trace(0).ok_or("no strand 0")?.events;
     let second = Event {
@@ -42,7 +41,7 @@ fn events_come_in_order_on_their_own_strand(rt: HostRuntime) -> Result<(), Fail>
 
 #[test]
 fn a_refused_add_leaves_the_strand_as_it_was(rt: HostRuntime) -> Result<(), Fail> {
-    let mut book = book_of(&rt, rt.alloc(), 1)?;
+    let mut book = book_of(rt.alloc(), 1)?;
     assert_eq!(rt; book.add(0, 2, PLAIN, 0), Err(Refusal::NotListed));
     assert_eq!(rt; book.add(0, TRANSMITS, 65, 0), Err(Refusal::NotThere));
     assert_eq!(rt; book.add(0, TRANSMITS, PLAIN, 2), Err(Refusal::NotThere));
@@ -55,7 +54,7 @@ fn a_refused_add_leaves_the_strand_as_it_was(rt: HostRuntime) -> Result<(), Fail
 fn a_sign_that_is_not_listed_comes_before_a_strand_that_is_not_there(
     rt: HostRuntime,
 ) -> Result<(), Fail> {
-    let mut book = book_of(&rt, rt.alloc(), 1)?;
+    let mut book = book_of(rt.alloc(), 1)?;
     assert_eq!(rt; book.add(7, 2, 65, 9), Err(Refusal::NotListed));
     assert_eq!(rt; book.add(7, 1, 65, 9), Err(Refusal::NotThere));
     Ok(())
@@ -64,7 +63,7 @@ fn a_sign_that_is_not_listed_comes_before_a_strand_that_is_not_there(
 // 16 times 4096 is 0 in sixteen bits.
 #[test]
 fn strand_4096_is_not_strand_0(rt: HostRuntime) -> Result<(), Fail> {
-    let mut book = book_of(&rt, rt.alloc(), 1)?;
+    let mut book = book_of(rt.alloc(), 1)?;
     assert_eq!(rt; book.add(4096, TRANSMITS, PLAIN, 0), Err(Refusal::NotThere));
     assert_eq!(rt; book.draw((4096, 0), (0, 0)), Err(Refusal::NotThere));
     assert_eq!(rt; book.draw((0, 0), (4096, 0)), Err(Refusal::NotThere));
@@ -75,21 +74,17 @@ fn strand_4096_is_not_strand_0(rt: HostRuntime) -> Result<(), Fail> {
 
 #[test]
 fn entering_messages_leaves_a_trace_as_it_was(rt: HostRuntime) -> Result<(), Fail> {
-    let mut book = book_of(&rt, rt.alloc(), 1)?;
-    check_trace(&rt, &book)?;
+    let mut book = book_of(rt.alloc(), 1)?;
+    check_trace(&book)?;
     assert_eq!(rt; book.enter(PAIR, 0, 1)?, 2);
     assert_eq!(rt; book.enter(DATUM, 5, 0)?, 3);
-    check_trace(&rt, &book)
+    check_trace(&book)
 }
 
 // The trace of strand 0 is the event that transmits the datum with the number 0.
-fn check_trace(rt: &impl Abort, book: &Book) -> Result<(), Fail> {
+fn check_trace(book: &Book) -> Result<(), Fail> {
     let trace = book.trace(0).ok_or("no strand 0")?;
-    assert_eq!(rt; trace.events, &[FIRST][..]);
-    assert_eq!(rt;
-        trace.messages.get(0),
-        Some(Stored::Symbol(Symbol::Datum, 0))
-    );
-    assert_eq!(rt; trace.origin(0)?, Some(0));
-    Ok(())
+    check(trace.events == &[FIRST][..])?;
+    check(trace.messages.get(0) == Some(Stored::Symbol(Symbol::Datum, 0)))?;
+    check(trace.origin(0)? == Some(0))
 }

@@ -2,11 +2,10 @@
 use super::call::Call;
 use record::Record;
 use refusal::Refusal;
-use std::process::Abort;
 use std::test::Fail;
 
 // Checks that a record of this kind and body is no call's.
-fn check_no_call(rt: &impl Abort, kind: u16, body: &[u8]) -> Result<(), Fail> {
+fn check_no_call(kind: u16, body: &[u8]) -> Result<(), Fail> {
     let record = Record {
         place: 0,
         kind,
@@ -14,27 +13,25 @@ fn check_no_call(rt: &impl Abort, kind: u16, body: &[u8]) -> Result<(), Fail> {
     };
     match Call::read(&record) {
         Ok(_) => Err(Fail::new("a call")),
-        Err(refusal) => {
-            assert_eq!(rt; refusal, Refusal::NotARecord);
-            Ok(())
-        },
+        Err(Refusal::NotARecord) => Ok(()),
+        Err(_) => Err(Fail::new("another refusal")),
     }
 }
 
 #[test]
-fn other_kinds_are_no_calls(rt: HostRuntime) -> Result<(), Fail> {
-    check_no_call(&rt, 0, &[])?;
-    check_no_call(&rt, 8, &[])?;
-    check_no_call(&rt, 257, &[0; 6])
+fn other_kinds_are_no_calls() -> Result<(), Fail> {
+    check_no_call(0, &[])?;
+    check_no_call(8, &[])?;
+    check_no_call(257, &[0; 6])
 }
 
 #[test]
-fn other_lengths_are_no_calls(rt: HostRuntime) -> Result<(), Fail> {
+fn other_lengths_are_no_calls() -> Result<(), Fail> {
     for kind in 1..8 {
-        check_no_call(&rt, kind, &[0; 2])?;
-        check_no_call(&rt, kind, &[0; 7])?;
-        check_no_call(&rt, kind, &[0; 10])?;
+        check_no_call(kind, &[0; 2])?;
+        check_no_call(kind, &[0; 7])?;
+        check_no_call(kind, &[0; 10])?;
     }
-    check_no_call(&rt, 1, &[0; 8])?;
-    check_no_call(&rt, 3, &[0; 6])
+    check_no_call(1, &[0; 8])?;
+    check_no_call(3, &[0; 6])
 }

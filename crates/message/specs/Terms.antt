@@ -50,9 +50,9 @@ pub record Algebra : Type 0 where
   pub complete : (t u : Term) → formed t ≡ true → formed u ≡ true → normal t ≡ normal u → t ≈ u
   -- equal terms have the same sort, and either both are formed or neither is
   pub sorts_kept : (t u : Term) → t ≈ u → (term_sort t ≡ term_sort u) × (formed t ≡ formed u)
-  -- the message of a formed term is well_sorted, and has the term's sort
+  -- the message of a formed term is well-sorted, and has the term's sort
   pub sorted : (t : Term) → formed t ≡ true → (well_sorted (normal t) ≡ true) × (sort_of (normal t) ≡ term_sort t)
-  -- every well_sorted message is that of a formed term
+  -- every well-sorted message is that of a formed term
   pub reached : (m : Message) → well_sorted m ≡ true → (t : Term) × (formed t ≡ true) × (normal t ≡ m)
   -- the inverse of the inverse of any message is that message
   pub involution : (m : Message) → inverse (inverse m) ≡ m

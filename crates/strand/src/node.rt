@@ -1,6 +1,6 @@
 // Nodes: when two of them are one, and their codes.
 ghost use Rattle.std.specs.Prelude.{◌≡◌, ℕ, ◌<◌, MatchOption};
-ghost use Rattle.strand.specs.Node.{Codes, InRange, code as code_of_lem, event_limit, same_node};
+ghost use Rattle.strand.specs.Node.{Codes, InRange, code as code_of, event_limit, same_node};
 
 use crate::strand::{EVENT_LIMIT, Node, STRAND_LIMIT};
 
@@ -13,7 +13,7 @@ pub fn is_same(m: Node, n: Node) -> bool
 
 // The code of a node whose strand number and index are below the limits.
 pub fn code(node: Node) -> Option<u16>
-    ensures code { MatchOption result (InRange node → ⊥) (λ c. InRange node × (c ≡ code_of_lem node)) }
+    ensures code { MatchOption result (InRange node → ⊥) (λ c. InRange node × (c ≡ code_of node)) }
     ensures codes { Codes }
 {
     let strand = node.0 as usize;
@@ -26,7 +26,7 @@ pub fn code(node: Node) -> Option<u16>
 
 // The node with this code.
 pub fn node(code: u16) -> Node
-    ensures { (result.1 < event_limit) × (code_of_lem result ≡ code) × ((n : ℕ × ℕ) → InRange n → code_of_lem n ≡ code → n ≡ result) }
+    ensures { (result.1 < event_limit) × (code_of result ≡ code) × ((n : ℕ × ℕ) → InRange n → code_of n ≡ code → n ≡ result) }
 {
     let limit = EVENT_LIMIT as u16;
     (code / limit, code % limit)

@@ -1,7 +1,7 @@
 -- Assumptions on messages are told apart by their messages or, in one table, by the messages' numbers.
 use Rattle.std.proofs.Common.{◌≡◌, ℕ, ◌<◌, ◌≤◌, Bool, true, false, ◌&&◌, eqb, ◌↔◌, List, map, length, get_or, sym, refl, ap, ◌∙◌, ap₂, arith}
 use Rattle.std.proofs.lemmas.Bool.{and_parts, and_from, eqb-true, eq-eqb, true≢false, false≢true}
-use Rattle.message.specs.Place.{place}
+use Rattle.listing.specs.Place.{place}
 use Rattle.listing.proofs.Places.{place_map}
 use Rattle.message.specs.Message.{Message}
 use Rattle.message.specs.Meaning.{Distinct, at}

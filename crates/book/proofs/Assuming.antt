@@ -3,7 +3,7 @@ use Rattle.std.proofs.Common.{◌≡◌, ℕ, Bool, not, ◌&&◌, ◌||◌, eqb
 use Rattle.refusal.specs.declared.Refusal.{Refusal}
 use Rattle.refusal.specs.Rows.{Rule, by_row, first_row, row}
 use Rattle.refusal.proofs.Rules.{passed_before, refused_before}
-use Rattle.message.specs.Place.{place}
+use Rattle.listing.specs.Place.{place}
 use Rattle.listing.specs.Listing.{Appended, Removed, append_rules, remove_rules}
 use Rattle.listing.proofs.Replies.{append_leaves, append_replied, appended_map, remove_leaves, remove_replied, removed_map}
 use Rattle.message.specs.Enter.{there}

@@ -5,9 +5,9 @@ use Rattle.std.proofs.lemmas.List.Edits.{length-remove}
 use Rattle.std.proofs.ByRecursion.{All-append, All-drop, All-push, All-take, All-weaker}
 use Rattle.std.proofs.lemmas.List.{length_push}
 use Rattle.std.proofs.lemmas.Bool.{false≢true, leb-false, ltb-false, ltb-true}
-use Rattle.message.specs.Place.{place}
+use Rattle.listing.specs.Place.{place}
 use Rattle.listing.specs.Listing.{stands}
-use Rattle.message.proofs.Places.{place_before}
+use Rattle.listing.proofs.Places.{place_before}
 use Rattle.book.specs.Orderly.{Listed, NoneTwice}
 
 -- what is found at a place is there

@@ -2,7 +2,7 @@
 use Rattle.std.proofs.Common.{◌≡◌, ℕ, ◌<◌, ◌≤◌, Bool, true, false, cond, ◌↔◌, List, [], ◌∷◌, ◌++◌, length, get_or, Ok, Err, Result, sym, refl, ap, ◌∙◌, subst, arith, length-append}
 use Rattle.std.proofs.lemmas.Bool.{ltb-true, ltb-false}
 use Rattle.refusal.specs.Rows.{Rule, first_row, unless_refused}
-use Rattle.message.proofs.Places.{place_finds}
+use Rattle.listing.proofs.Places.{place_finds}
 use Rattle.listing.proofs.Places.{place_keep, place_le, place_push}
 use Rattle.message.specs.declared.stored.Symbol.TheVariants.{AsymmetricKey}
 use Rattle.message.specs.Message.{Message, symbol}

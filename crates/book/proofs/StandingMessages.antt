@@ -4,7 +4,7 @@ use Rattle.std.specs.List.{ContainsAt as Has}
 use Rattle.std.proofs.ByRecursion.{has_append_left}
 use Rattle.std.proofs.lemmas.List.{get_or_past, length_push}
 use Rattle.std.proofs.lemmas.Bool.{and_from, and_parts, cases_lt, cond_both, eq-eqb, eqb-false, leb-false, leb-true, ltb-false, not-false, or_parts}
-use Rattle.message.proofs.Places.{place_before}
+use Rattle.listing.proofs.Places.{place_before}
 use Rattle.message.specs.declared.stored.Symbol.TheVariants.{AsymmetricKey, SymmetricKey, Datum, Tag}
 use Rattle.message.specs.declared.stored.Operation.TheVariants.{AsymmetricEncryption, SymmetricEncryption}
 use Rattle.message.specs.declared.stored.Sort.TheVariants.{Asymmetric}

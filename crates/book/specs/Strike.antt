@@ -2,7 +2,7 @@
 use Rattle.std.specs.Prelude.{ℕ, List, ◌∷◌, Result}
 use Rattle.std.specs.List.{remove}
 use Rattle.refusal.specs.Rows.{Rule, first_row, unless_refused}
-use Rattle.message.specs.Place.{place}
+use Rattle.listing.specs.Place.{place}
 use Rattle.listing.specs.Listing.{remove_rules}
 use Rattle.strand.specs.Node.{Node}
 use Rattle.bundle.specs.Arrow.{same_arrow}

@@ -5,7 +5,7 @@ use Rattle.std.proofs.lemmas.List.{length-map, map-append, map_push, take-map, d
 use Rattle.std.proofs.lemmas.Bool.{le-leb, lt-leb, le-ltb, lt-ltb}
 use Rattle.refusal.specs.declared.Refusal.{Refusal}
 use Rattle.refusal.specs.Rows.{by_row, first_row, unless_refused}
-use Rattle.message.specs.Place.{place}
+use Rattle.listing.specs.Place.{place}
 use Rattle.listing.specs.Listing.{Appended, Removed, append_rules, remove_rules, stands}
 
 module _ {X : Type 0} (same : X → X → Bool) (limit : ℕ) (xs : List X) (x : X) (after : List X) where

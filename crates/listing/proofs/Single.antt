@@ -7,7 +7,7 @@ use Rattle.std.proofs.lemmas.Bool.{cases_lt}
 use Rattle.refusal.specs.declared.Refusal.{Refusal}
 use Rattle.listing.specs.Listing.{Absent, Appended, Removed}
 use Rattle.listing.specs.Place.{Once}
-use Rattle.message.proofs.Places.{place_before}
+use Rattle.listing.proofs.Places.{place_before}
 
 module _ {X : Type 0} (same : X → X → Bool) (d : X) (xs : List X) (once : Once same d xs) where
   -- what does not stand differs from each entry

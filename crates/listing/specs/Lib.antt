@@ -1,4 +1,3 @@
 pub mod Place
-pub mod First
 pub mod Listing
 pub mod Held

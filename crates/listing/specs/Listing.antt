@@ -3,7 +3,12 @@ use Rattle.std.specs.Prelude.{◌≡◌, ℕ, ◌<◌, ◌≤◌, Bool, not, ◌
 use Rattle.std.specs.List.{remove}
 use Rattle.refusal.specs.declared.Refusal.{Refusal}
 use Rattle.refusal.specs.Rows.{Rule, row}
-use Rattle.message.specs.Place.{place}
+use Rattle.listing.specs.Place.{place}
+
+-- an entry is put at the end, if there may be one more
+abbrev pub Pushed : {X : Type 0} → ℕ → List X → X → Result ℕ Refusal → List X → Type 0
+Pushed limit xs x (Ok k) after = (k ≡ length xs) × (length xs < limit) × (after ≡ xs ++ x ∷ [])
+Pushed limit xs x (Err q) after = (row q ≡ 8) × (limit ≤ length xs) × (after ≡ xs)
 
 module _ {X : Type 0} (same : X → X → Bool) where
   -- whether an entry that is the same as x stands in the list

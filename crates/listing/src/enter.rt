@@ -2,7 +2,7 @@
 // takes none.
 ghost use Rattle.std.specs.Prelude.{◌≡◌, [], IfOk};
 ghost use Rattle.listing.specs.Held.{entries_of, memory_of};
-ghost use Rattle.listing.specs.Listing.{Appended, Removed};
+ghost use Rattle.listing.specs.Listing.{Appended, Pushed, Removed};
 
 use crate::listing::Listing;
 use crate::same::Same;
@@ -19,6 +19,21 @@ impl<T, const LIMIT: usize> Listing<T, LIMIT> {
     }
 }
 
+impl<T: Copy, const LIMIT: usize> Listing<T, LIMIT> {
+    // Puts an entry at the end, whether or not it stands, and answers its place.
+    pub fn push(&mut self, entry: T) -> Result<usize, Refusal>
+        ensures pushed { Pushed LIMIT (entries_of self.old) entry result (entries_of self.new) }
+        ensures memory { memory_of self.new ≡ memory_of self.old }
+    {
+        let end = self.entries.len();
+        if end >= LIMIT {
+            return Err(Refusal::OverLimit);
+        }
+        self.entries.push_reserved(entry);
+        Ok(end)
+    }
+}
+
 impl<T: Same + Copy, const LIMIT: usize> Listing<T, LIMIT> {
     // Puts an entry that does not stand yet at the end, and answers its place.
     pub fn append(&mut self, entry: T) -> Result<usize, Refusal>
@@ -28,12 +43,7 @@ impl<T: Same + Copy, const LIMIT: usize> Listing<T, LIMIT> {
         if self.place(&entry).is_some() {
             return Err(Refusal::StandsAlready);
         }
-        let end = self.entries.len();
-        if end >= LIMIT {
-            return Err(Refusal::OverLimit);
-        }
-        self.entries.push_reserved(entry);
-        Ok(end)
+        self.push(entry)
     }
 
     // Takes an entry out, and answers where it stood. Those behind it move up.
@@ -41,9 +51,7 @@ impl<T: Same + Copy, const LIMIT: usize> Listing<T, LIMIT> {
         ensures removed { Removed T.Same.same (entries_of self.old) entry.now result (entries_of self.new) }
         ensures memory { memory_of self.new ≡ memory_of self.old }
     {
-        let Some(place) = self.place(entry) else {
-            return Err(Refusal::DoesNotStand);
-        };
+        let place = self.place(entry).ok_or(Refusal::DoesNotStand)?;
         self.entries.remove(place);
         Ok(place)
     }

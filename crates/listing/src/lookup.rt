@@ -1,11 +1,9 @@
 // Reading a listing: its length, its entries, and the place of an entry.
-ghost use Rattle.std.specs.Prelude.{◌≡◌, ◌≤◌, length, MatchOption};
+ghost use Rattle.std.specs.Prelude.{◌≡◌, ◌≤◌, length, position};
 ghost use Rattle.listing.specs.Held.{entries_of};
-ghost use Rattle.listing.specs.Listing.{Absent, Placed};
-ghost use Rattle.message.specs.Place.{place};
 
 use crate::listing::Listing;
-use crate::same::{Same, first_same};
+use crate::same::Same;
 
 impl<T, const LIMIT: usize> Listing<T, LIMIT> {
     // How many entries stand.
@@ -27,20 +25,8 @@ impl<T, const LIMIT: usize> Listing<T, LIMIT> {
 impl<T: Same, const LIMIT: usize> Listing<T, LIMIT> {
     // Where this entry stands, if it does.
     pub fn place(&self, entry: &T) -> Option<usize>
-        ensures { MatchOption result (Absent T.Same.same entry.now (entries_of self.now)) (Placed T.Same.same entry.now (entries_of self.now)) }
+        ensures { result ≡ position (λ held. T.Same.same held entry.now) (entries_of self.now) }
     {
-        let place = self.search(entry);
-        if place < self.entries.len() {
-            Some(place)
-        } else {
-            None
-        }
-    }
-
-    // How many entries stand before this one: all of them where it does not stand.
-    fn search(&self, entry: &T) -> usize
-        ensures { result ≡ place T.Same.same entry.now (entries_of self.now) }
-    {
-        first_same(self.entries.as_slice(), entry)
+        self.entries.iter().position(|held| held.is_same(entry))
     }
 }

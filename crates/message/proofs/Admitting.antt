@@ -2,19 +2,21 @@
 use Rattle.std.proofs.Common.{◌≡◌, ℕ, ◌<◌, ◌≤◌, true, false, leb, List, [], ◌∷◌, ◌++◌, length, Ok, Err, Result, sym, refl, ap, ◌∙◌, arith}
 use Rattle.std.proofs.lemmas.List.{length_push, get_or_push, get_or_append_left}
 use Rattle.std.proofs.lemmas.Bool.{lt-ltb, le-ltb}
-use Rattle.refusal.specs.declared.Refusal.TheVariants.{OverLimit}
+use Rattle.refusal.specs.declared.Refusal.{Refusal}
+use Rattle.refusal.specs.Rows.{row}
 use Rattle.message.specs.declared.stored.Symbol.TheVariants.{AsymmetricKey}
 use Rattle.message.specs.Message.{Message, symbol}
 use Rattle.message.specs.Same.{same, same_true, true_same}
-use Rattle.message.specs.Place.{place}
+use Rattle.listing.specs.Place.{place}
 use Rattle.message.specs.Meaning.{at, Distinct}
 use Rattle.message.specs.Enter.{number_of, stands}
 use Rattle.message.specs.Resolve.{Admitted}
-use Rattle.message.proofs.Places.{place_before, place_finds, place_none}
+use Rattle.std.proofs.lemmas.List.Sums.{passes_at_first}
+use Rattle.listing.proofs.Places.{place_before, place_none}
 
 -- the number of a message that stands once
 number_found : (ms : List Message) (m : Message) (n : ℕ) → Distinct ms → n < length ms → at ms n ≡ m → number_of ms m ≡ n
-number_found ms m n once h e = once _ n (l, h, (same_true _ m (place_finds same m (symbol AsymmetricKey 0) ms l) ∙ sym e))
+number_found ms m n once h e = once _ n (l, h, (same_true _ m (passes_at_first (λ n. same n m) ms (symbol AsymmetricKey 0) l) ∙ sym e))
   where
     l : place same m ms < length ms
     l = let p = place_before same m (symbol AsymmetricKey 0) ms n h (true_same _ m e) in omega arith
@@ -40,11 +42,11 @@ module _ (ms : List Message) (m : Message) (none : (k : ℕ) → k < length ms �
   absent = let number = number_new ms m none in le-ltb _ _ (omega (arith, number))
 
   -- a new message where there is no room
-  pub over : 1024 ≤ length ms → Admitted ms m (Err OverLimit) ms
-  over h =
+  pub over : (q : Refusal) → row q ≡ 8 → 1024 ≤ length ms → Admitted ms m (Err q) ms
+  over q eight h =
       let no_room : leb 1024 (length ms) ≡ true = lt-ltb 1023 (length ms) (omega arith) in
       record {
-        reply = sym (simp (absent, no_room));
+        reply = ap {B = Result ℕ ℕ} Err eight ∙ sym (simp (absent, no_room));
         stands_after = sym (simp (absent, no_room));
         number = tt;
         kept = λ k l. refl;

@@ -1,7 +1,8 @@
 -- A table with one more entry keeps its facts.
-use Rattle.std.proofs.Common.{◌≡◌, ℕ, ◌+◌, ◌<◌, ◌≤◌, true, ◌⊎◌, List, [], ◌∷◌, ◌++◌, length, get_or, sym, ap, ◌∙◌, subst, inl, inr, ⊎_elim, arith}
+use Rattle.std.proofs.Common.{◌≡◌, ℕ, ◌+◌, ◌<◌, ◌≤◌, true, ◌⊎◌, List, [], ◌∷◌, ◌++◌, length, sym, ap, ◌∙◌, inl, inr, arith}
 use Rattle.std.proofs.lemmas.List.{length_push, get_or_push, get_or_append_left}
 use Rattle.std.proofs.lemmas.Bool.{cases_lt}
+use Rattle.listing.proofs.Each.{each_push}
 use Rattle.message.specs.declared.stored.Symbol.TheVariants.{AsymmetricKey}
 use Rattle.message.specs.declared.stored.Stored.{Stored}
 use Rattle.message.specs.declared.stored.Stored.TheVariants.{Symbol, Inverse, Compound}
@@ -9,19 +10,6 @@ use Rattle.message.specs.declared.stored.Entry.{Entry}
 use Rattle.message.specs.Message.{Message, symbol, size, well_sorted}
 use Rattle.message.specs.Meaning.{at, value, meanings, reach, no_entry, InOrder, Sized, Small, Distinct, WellSorted}
 use Rattle.message.proofs.Meanings.{length_meanings, meanings_push}
-
--- what holds at each place of a list and of one more element holds at each place of both
-each_push : {X : Type 0} (d : X) (P : X → ℕ → Type 0) (xs : List X) (x : X) → ((k : ℕ) → k < length xs → P (get_or xs k d) k) → P x (length xs) →
-    (k : ℕ) → k < length (xs ++ x ∷ []) → P (get_or (xs ++ x ∷ []) k d) k
-each_push d P xs x each new k h = ⊎_elim before behind (cases_lt k (length xs))
-  where
-    before : k < length xs → P (get_or (xs ++ x ∷ []) k d) k
-    before l = subst (λ y. P y k) (sym (get_or_append_left xs (x ∷ []) d k l)) (each k l)
-
-    behind : length xs ≤ k → P (get_or (xs ++ x ∷ []) k d) k
-    behind l =
-        let here : length xs ≡ k = let n = length_push xs x in omega arith in
-        subst (λ y. P y k) (sym (get_or_push xs x d k here)) (subst (P x) here new)
 
 pub ordered_push : (es : List Entry) (e : Entry) → InOrder es → reach e.stored ≤ length es → InOrder (es ++ e ∷ [])
 ordered_push es e ordered older = each_push no_entry (λ f k. reach f.stored ≤ k) es e ordered older

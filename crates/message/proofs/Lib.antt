@@ -1,10 +1,10 @@
 pub mod Terms
 pub mod Meanings
 pub mod Held
-pub mod Places
 pub mod Admitting
 pub mod Growing
 pub mod Searched
 pub mod Carrying
 pub mod Carries
 pub mod Numbers
+pub mod Beginning

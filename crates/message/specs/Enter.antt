@@ -7,7 +7,7 @@ use Rattle.message.specs.declared.stored.Operation.TheVariants.{Pair, Asymmetric
 use Rattle.message.specs.declared.stored.Sort.TheVariants.{Asymmetric, Symmetric}
 use Rattle.message.specs.Message.{Message, symbol, compound, inverse, message_limit, of_sort, size, size_limit}
 use Rattle.message.specs.Same.{same}
-use Rattle.message.specs.Place.{place}
+use Rattle.listing.specs.Place.{place}
 use Rattle.message.specs.Meaning.{at}
 
 -- the message that the arguments name: x is the number of the symbol itself in forms 1 to 4, and of a message from form 5

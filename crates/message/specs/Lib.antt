@@ -1,7 +1,7 @@
 pub mod Message
+pub mod Forms
 pub mod Terms
 pub mod Same
-pub mod Place
 pub mod Meaning
 pub mod Carried
 pub mod Carrying

@@ -1,5 +1,6 @@
 -- A table of messages by what it holds.
-use Rattle.std.specs.Prelude.{◌≡◌, ℕ, ◌<◌, ◌≤◌, true, ◌↔◌, List, [], length, vec_items, vec_capacity}
+use Rattle.std.specs.Prelude.{◌≡◌, ℕ, ◌<◌, ◌≤◌, true, ◌↔◌, List, [], length}
+use Rattle.listing.specs.Held.{entries_of as held, memory_of as room}
 use Rattle.message.specs.declared.stored.Entry.{Entry}
 use Rattle.message.specs.declared.stored.Stored.{Stored}
 use Rattle.message.specs.declared.table.Messages.{Messages}
@@ -10,7 +11,7 @@ use Rattle.message.specs.Terms.{Algebra, Term, ◌≈◌, formed, normal}
 
 -- the entries by number
 abbrev pub entries_of : Messages → List Entry
-entries_of t = vec_items t.entries
+entries_of t = held t.entries
 
 -- the messages by number
 abbrev pub messages_of : Messages → List Message
@@ -18,7 +19,7 @@ messages_of t = meanings (entries_of t)
 
 -- how many messages there is memory for
 abbrev pub memory_of : Messages → ℕ
-memory_of t = vec_capacity t.entries
+memory_of t = room t.entries
 
 -- what holds of the messages of every table
 pub record Numbered (ms : List Message) : Type 0 where

@@ -1,13 +1,13 @@
 // A new table, and entering messages into it. The memory is taken when the table is made; entering takes none.
-ghost use Rattle.std.specs.Prelude.{◌≡◌, ℕ, ◌<◌, ◌≤◌, [], length, IfOk, vec_capacity, ◌≢◌};
+ghost use Rattle.std.specs.Prelude.{◌≡◌, ℕ, ◌<◌, length, IfOk, ◌≢◌};
 ghost use Rattle.message.specs.Enter.{Entered};
 ghost use Rattle.message.specs.Meaning.{at, value};
-ghost use Rattle.message.specs.Message.{message_limit};
 ghost use Rattle.message.specs.Resolve.{Admitted, Fits};
-ghost use Rattle.message.specs.Table.{Begins, messages_of};
+ghost use Rattle.message.specs.Table.{Begins, memory_of, messages_of};
 
 use crate::stored::Entry;
-use crate::table::{MESSAGE_LIMIT, Messages};
+use crate::table::Messages;
+use listing::Listing;
 use refusal::Refusal;
 use std::alloc::{AllocError, Global};
 
@@ -16,24 +16,15 @@ impl Messages {
     pub fn new(heap: Global) -> Result<Messages, AllocError>
         ensures { IfOk result Begins }
     {
-        let entries = Vec::with_capacity(heap, MESSAGE_LIMIT)?;
-        Ok(Messages::over(entries))
-    }
-
-    // A new table over this memory.
-    fn over(entries: Vec<Entry>) -> Messages
-        requires empty { entries.items ≡ [] }
-        requires room { message_limit ≤ vec_capacity entries }
-        ensures { Begins result }
-    {
-        Messages { entries }
+        let entries = Listing::new(heap)?;
+        Ok(Messages { entries })
     }
 
     // The number of the message that the form and its operands name: the old one where an equal message stands.
     // The memory stays the table's first.
     pub fn enter(&mut self, form: u16, x: u16, y: u16) -> Result<u16, Refusal>
         ensures entered { Entered (messages_of self.old) form x y result (messages_of self.new) }
-        ensures memory { vec_capacity self.new.entries ≡ vec_capacity self.old.entries }
+        ensures memory { memory_of self.new ≡ memory_of self.old }
     {
         let entry = self.resolve(form, x, y)?;
         self.admit(entry)
@@ -43,9 +34,9 @@ impl Messages {
     fn admit(&mut self, entry: Entry) -> Result<u16, Refusal>
         requires { Fits (messages_of self.old) entry }
         ensures admitted { Admitted (messages_of self.old) (value (messages_of self.old) entry.stored) result (messages_of self.new) }
-        ensures memory { vec_capacity self.new.entries ≡ vec_capacity self.old.entries }
+        ensures memory { memory_of self.new ≡ memory_of self.old }
     {
-        match self.find(entry.stored) {
+        match self.find(entry) {
             Some(number) => Ok(number),
             None => self.append(entry),
         }
@@ -56,13 +47,9 @@ impl Messages {
         requires fits { Fits (messages_of self.old) entry }
         requires new { (k : ℕ) → k < length (messages_of self.old) → at (messages_of self.old) k ≢ value (messages_of self.old) entry.stored }
         ensures admitted { Admitted (messages_of self.old) (value (messages_of self.old) entry.stored) result (messages_of self.new) }
-        ensures memory { vec_capacity self.new.entries ≡ vec_capacity self.old.entries }
+        ensures memory { memory_of self.new ≡ memory_of self.old }
     {
-        let number = self.entries.len();
-        if number >= MESSAGE_LIMIT {
-            return Err(Refusal::OverLimit);
-        }
-        self.entries.push_reserved(entry);
+        let number = self.entries.push(entry)?;
         Ok(number as u16)
     }
 }

@@ -1,24 +1,26 @@
 // The forms of messages by number.
-ghost use Rattle.std.specs.Prelude.{◌≡◌, ◌<◌, ◌⊎◌, MatchOption};
-ghost use Rattle.message.specs.Message.{form_number};
+ghost use Rattle.message.specs.Forms.{FormListed};
 
 use crate::stored::{Form, Operation, Symbol};
+use refusal::Refusal;
 
-impl Form {
-    // The form with this number; the forms are 1 to 8.
-    pub fn listed(number: u16) -> Option<Form>
-        ensures { MatchOption result ((number ≡ 0) ⊎ (8 < number)) (λ form. form_number form ≡ number) }
-    {
+// The form with a number; the forms are 1 to 8.
+impl TryFrom<u16> for Form {
+    type Error = Refusal;
+
+    ghost try_from_gives = { FormListed };
+
+    fn try_from(number: u16) -> Result<Form, Refusal> {
         match number {
-            1 => Some(Form::Symbol(Symbol::AsymmetricKey)),
-            2 => Some(Form::Symbol(Symbol::SymmetricKey)),
-            3 => Some(Form::Symbol(Symbol::Datum)),
-            4 => Some(Form::Symbol(Symbol::Tag)),
-            5 => Some(Form::Inverse),
-            6 => Some(Form::Compound(Operation::Pair)),
-            7 => Some(Form::Compound(Operation::AsymmetricEncryption)),
-            8 => Some(Form::Compound(Operation::SymmetricEncryption)),
-            _ => None,
+            1 => Ok(Form::Symbol(Symbol::AsymmetricKey)),
+            2 => Ok(Form::Symbol(Symbol::SymmetricKey)),
+            3 => Ok(Form::Symbol(Symbol::Datum)),
+            4 => Ok(Form::Symbol(Symbol::Tag)),
+            5 => Ok(Form::Inverse),
+            6 => Ok(Form::Compound(Operation::Pair)),
+            7 => Ok(Form::Compound(Operation::AsymmetricEncryption)),
+            8 => Ok(Form::Compound(Operation::SymmetricEncryption)),
+            _ => Err(Refusal::NotListed),
         }
     }
 }

@@ -6,6 +6,7 @@ mod enter;
 mod form;
 mod lookup;
 mod resolve;
+mod same;
 mod sorts;
 pub mod stored;
 pub mod table;

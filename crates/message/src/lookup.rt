@@ -1,18 +1,11 @@
 // Reading a table: its length, what stands at a number, and the number of what is stored already.
-ghost use Rattle.std.specs.Prelude.{◌≡◌, ◌≤◌, true, length, MatchOption};
+ghost use Rattle.std.specs.Prelude.{◌≡◌, ◌≤◌, length, MatchOption};
 ghost use Rattle.message.specs.Meaning.{reach, value};
 ghost use Rattle.message.specs.Resolve.{Found};
 ghost use Rattle.message.specs.Table.{Holds, Numbered, Sizes, Stands, messages_of};
 
 use crate::stored::{Entry, Stored};
 use crate::table::Messages;
-
-// Whether two messages are stored alike.
-fn is_same(a: Stored, b: Stored) -> bool
-    ensures { (result ≡ true → a ≡ b) × (a ≡ b → result ≡ true) }
-{
-    a == b
-}
 
 impl Messages {
     // How many messages stand.
@@ -27,38 +20,29 @@ impl Messages {
     pub fn get(&self, number: u16) -> Option<Stored>
         ensures { MatchOption result (length (messages_of self.now) ≤ number) (Stands (messages_of self.now) number) }
     {
-        match self.entry(number) {
-            Some(entry) => Some(entry.stored),
-            None => None,
-        }
+        self.entry(number).map(|entry| entry.stored)
     }
 
     // The size of the message with this number.
     pub fn size(&self, number: u16) -> Option<u16>
         ensures { MatchOption result (length (messages_of self.now) ≤ number) (Sizes (messages_of self.now) number) }
     {
-        match self.entry(number) {
-            Some(entry) => Some(entry.size),
-            None => None,
-        }
+        self.entry(number).map(|entry| entry.size)
     }
 
+    // The entry with this number.
+    #[tactic(auto, using(crate::proofs::Held::looked_up))]
     pub(crate) fn entry(&self, number: u16) -> Option<Entry>
         ensures { MatchOption result (length (messages_of self.now) ≤ number) (Holds (messages_of self.now) number) }
     {
-        self.entries.get(number as usize).copied()
+        self.entries.as_slice().get(number as usize).copied()
     }
 
-    // The number of the message that is stored so.
-    pub(crate) fn find(&self, stored: Stored) -> Option<u16>
-        requires { reach stored ≤ length (messages_of self.now) }
-        ensures { Found (messages_of self.now) (value (messages_of self.now) stored) result }
+    // The number of the message that the entry stores.
+    pub(crate) fn find(&self, entry: Entry) -> Option<u16>
+        requires { reach entry.stored ≤ length (messages_of self.now) }
+        ensures { Found (messages_of self.now) (value (messages_of self.now) entry.stored) result }
     {
-        for (i, entry) in self.entries.iter().enumerate() {
-            if is_same(entry.stored, stored) {
-                return Some(i as u16);
-            }
-        }
-        None
+        self.entries.place(&entry).map(|number| number as u16)
     }
 }

@@ -71,10 +71,7 @@ impl Messages {
     pub(crate) fn resolve(&self, form: u16, x: u16, y: u16) -> Result<Entry, Refusal>
         ensures { Resolves (messages_of self.now) form x y result }
     {
-        let Some(form) = Form::listed(form) else {
-            return Err(Refusal::NotListed);
-        };
-        match form {
+        match Form::try_from(form)? {
             Form::Symbol(symbol) => self.symbol(symbol, x, y),
             Form::Inverse => self.inverse(x, y),
             Form::Compound(operation) => self.compound(operation, x, y),

@@ -6,6 +6,7 @@ ghost use Rattle.std.specs.Prelude.{◌≡◌, Some};
 ghost use Rattle.refusal.specs.Rows.{row};
 ghost use Rattle.refusal.specs.Words.{in_words};
 
+use std::error::Error;
 use std::fmt;
 
 #[derive(Clone, Copy, PartialEq, Eq, Debug)]
@@ -33,24 +34,6 @@ pub enum Refusal {
 }
 
 impl Refusal {
-    // The refusal's number in the table.
-    pub fn number(self) -> u8
-        ensures { result ≡ row self }
-    {
-        match self {
-            Refusal::Truncated => 1,
-            Refusal::NotARecord => 2,
-            Refusal::NotListed => 3,
-            Refusal::NotThere => 4,
-            Refusal::WrongSort => 5,
-            Refusal::StandsAlready => 6,
-            Refusal::DoesNotStand => 7,
-            Refusal::OverLimit => 8,
-            Refusal::BufferShort => 9,
-            Refusal::RoleNotWellFormed => 10,
-        }
-    }
-
     // The refusal in words.
     pub fn words(self) -> &'static str
         ensures { result.now ≡ in_words self }
@@ -71,6 +54,26 @@ impl Refusal {
     }
 }
 
+// The refusal's number in the table.
+impl From<Refusal> for u8 {
+    ghost from_gives = { λ refusal number. number ≡ row refusal };
+
+    fn from(refusal: Refusal) -> u8 {
+        match refusal {
+            Refusal::Truncated => 1,
+            Refusal::NotARecord => 2,
+            Refusal::NotListed => 3,
+            Refusal::NotThere => 4,
+            Refusal::WrongSort => 5,
+            Refusal::StandsAlready => 6,
+            Refusal::DoesNotStand => 7,
+            Refusal::OverLimit => 8,
+            Refusal::BufferShort => 9,
+            Refusal::RoleNotWellFormed => 10,
+        }
+    }
+}
+
 impl fmt::Display for Refusal {
     ghost output = { λ refusal. Some (in_words refusal) };
 
@@ -78,3 +81,5 @@ impl fmt::Display for Refusal {
         f.write_str(self.words())
     }
 }
+
+impl Error for Refusal {}

@@ -1,1 +1,2 @@
 pub mod Assumption
+pub mod Kinds

@@ -1,28 +1,34 @@
 // The kinds of assumption by number.
-ghost use Rattle.std.specs.Prelude.{◌≡◌, ◌<◌, ◌⊎◌, MatchOption};
+ghost use Rattle.std.specs.Prelude.{◌≡◌};
 ghost use Rattle.assumption.specs.Assumption.{kind_number, kind_of};
+ghost use Rattle.assumption.specs.Kinds.{KindListed};
 
 use crate::assumption::{Assumption, Kind};
+use refusal::Refusal;
 
-impl Kind {
-    // The kind with this number; the kinds are 1 to 4.
-    pub fn listed(number: u16) -> Option<Kind>
-        ensures { MatchOption result ((number ≡ 0) ⊎ (4 < number)) (λ kind. kind_number kind ≡ number) }
-    {
+// The kind with a number; the kinds are 1 to 4.
+impl TryFrom<u16> for Kind {
+    type Error = Refusal;
+
+    ghost try_from_gives = { KindListed };
+
+    fn try_from(number: u16) -> Result<Kind, Refusal> {
         match number {
-            1 => Some(Kind::NonOriginating),
-            2 => Some(Kind::UniquelyOriginating),
-            3 => Some(Kind::Authenticated),
-            4 => Some(Kind::Confidential),
-            _ => None,
+            1 => Ok(Kind::NonOriginating),
+            2 => Ok(Kind::UniquelyOriginating),
+            3 => Ok(Kind::Authenticated),
+            4 => Ok(Kind::Confidential),
+            _ => Err(Refusal::NotListed),
         }
     }
+}
 
-    // The kind's number.
-    pub fn number(self) -> u16
-        ensures { result ≡ kind_number self }
-    {
-        match self {
+// The kind's number.
+impl From<Kind> for u16 {
+    ghost from_gives = { λ kind number. number ≡ kind_number kind };
+
+    fn from(kind: Kind) -> u16 {
+        match kind {
             Kind::NonOriginating => 1,
             Kind::UniquelyOriginating => 2,
             Kind::Authenticated => 3,

@@ -21,6 +21,7 @@ impl Messages {
     }
 
     // The same of numbers that are there, so that a look-up always finds something.
+    #[tactic(auto, using(crate::proofs::Carries::tells_inside))]
     fn is_carried(&self, inner: u16, outer: u16) -> bool
         requires inner { inner < length (messages_of self.now) }
         requires outer { outer < length (messages_of self.now) }

@@ -1,15 +1,13 @@
 -- Assumptions on messages are told apart by their messages or, in one table, by the messages' numbers.
-use Rattle.std.proofs.Common.{◌≡◌, ℕ, ◌<◌, ◌≤◌, Bool, true, false, ◌&&◌, eqb, ◌↔◌, List, map, length, get_or, sym, refl, ap, ◌∙◌, ap₂, arith}
-use Rattle.std.proofs.lemmas.Bool.{and_parts, and_from, eqb-true, eq-eqb, true≢false, false≢true}
+use Rattle.std.proofs.Common.{◌≡◌, ℕ, ◌<◌, ◌≤◌, Bool, true, false, eqb, List, map, length, get_or, sym, refl, ap, ◌∙◌, arith}
+use Rattle.std.proofs.lemmas.Bool.{eqb-true, eq-eqb, true≢false, false≢true}
 use Rattle.listing.specs.Place.{place}
 use Rattle.listing.proofs.Places.{place_map}
 use Rattle.message.specs.Message.{Message}
 use Rattle.message.specs.Meaning.{Distinct, at}
 use Rattle.message.specs.Same.{same, same_true, true_same}
-use Rattle.strand.specs.Node.{same_node}
 use Rattle.strand.proofs.Nodes.{equal_nodes}
 use Rattle.assumption.specs.declared.assumption.Assumption.{Assumption}
-use Rattle.assumption.specs.declared.assumption.Assumption.TheVariants.{NonOriginating, UniquelyOriginating, Authenticated, Confidential}
 use Rattle.assumption.specs.Assumption.{EqualAssumptions, ValuesWithin, no_assumption, same_assumption, same_by, supposed, value_reach}
 
 -- the test of messages and that of their numbers agree in a table that holds none twice
@@ -24,23 +22,7 @@ same_at ms once v w hv hw = go (same (at ms v) (at ms w)) refl (eqb v w) refl
 
 same_supposed : (ms : List Message) → Distinct ms → (a b : Assumption ℕ) → value_reach a ≤ length ms → value_reach b ≤ length ms →
     same_assumption (supposed ms a) (supposed ms b) ≡ same_by eqb a b
-same_supposed ms once (NonOriginating v) (NonOriginating w) ha hb = same_at ms once v w (omega arith) (omega arith)
-same_supposed ms once (NonOriginating v) (UniquelyOriginating w n) ha hb = refl
-same_supposed ms once (NonOriginating v) (Authenticated d) ha hb = refl
-same_supposed ms once (NonOriginating v) (Confidential d) ha hb = refl
-same_supposed ms once (UniquelyOriginating v m) (NonOriginating w) ha hb = refl
-same_supposed ms once (UniquelyOriginating v m) (UniquelyOriginating w n) ha hb =
-    ap (λ b. b && same_node m n) (same_at ms once v w (omega arith) (omega arith))
-same_supposed ms once (UniquelyOriginating v m) (Authenticated d) ha hb = refl
-same_supposed ms once (UniquelyOriginating v m) (Confidential d) ha hb = refl
-same_supposed ms once (Authenticated c) (NonOriginating w) ha hb = refl
-same_supposed ms once (Authenticated c) (UniquelyOriginating w n) ha hb = refl
-same_supposed ms once (Authenticated c) (Authenticated d) ha hb = refl
-same_supposed ms once (Authenticated c) (Confidential d) ha hb = refl
-same_supposed ms once (Confidential c) (NonOriginating w) ha hb = refl
-same_supposed ms once (Confidential c) (UniquelyOriginating w n) ha hb = refl
-same_supposed ms once (Confidential c) (Authenticated d) ha hb = refl
-same_supposed ms once (Confidential c) (Confidential d) ha hb = refl
+same_supposed ms once a b ha hb = grind (arith, same_at)
 
 -- an assumption has one place, by messages and by numbers
 pub place_supposed : (ms : List Message) → Distinct ms → (xs : List (Assumption ℕ)) (a : Assumption ℕ) → ValuesWithin ms xs → value_reach a ≤ length ms →
@@ -48,27 +30,6 @@ pub place_supposed : (ms : List Message) → Distinct ms → (xs : List (Assumpt
 place_supposed ms once xs a within h =
     place_map (same_by eqb) same_assumption (supposed ms) a no_assumption xs (λ k l. same_supposed ms once (get_or xs k no_assumption) a (within k l) h)
 
-never : {P : Type 0} → (P → false ≡ true) → (false ≡ true) ↔ P
-never clash = ((λ t. absurd (false≢true t)), clash)
-
 -- two assumptions of one kind are one exactly when their parts are, and two of different kinds never
 pub equal_assumptions : EqualAssumptions
-equal_assumptions (NonOriginating v) (NonOriginating w) = ((λ t. ap {B = Assumption Message} NonOriginating (same_true v w t)), (λ e. true_same v w cc))
-equal_assumptions (NonOriginating v) (UniquelyOriginating w n) = never (λ e. cc)
-equal_assumptions (NonOriginating v) (Authenticated d) = never (λ e. cc)
-equal_assumptions (NonOriginating v) (Confidential d) = never (λ e. cc)
-equal_assumptions (UniquelyOriginating v m) (NonOriginating w) = never (λ e. cc)
-equal_assumptions (UniquelyOriginating v m) (UniquelyOriginating w n) = (
-  (λ t. let p = and_parts _ _ t in ap₂ {C = Assumption Message} UniquelyOriginating (same_true v w p.0) ((equal_nodes m n).0 p.1)),
-  (λ e. and_from _ _ (true_same v w cc) ((equal_nodes m n).1 cc)),
-)
-equal_assumptions (UniquelyOriginating v m) (Authenticated d) = never (λ e. cc)
-equal_assumptions (UniquelyOriginating v m) (Confidential d) = never (λ e. cc)
-equal_assumptions (Authenticated c) (NonOriginating w) = never (λ e. cc)
-equal_assumptions (Authenticated c) (UniquelyOriginating w n) = never (λ e. cc)
-equal_assumptions (Authenticated c) (Authenticated d) = ((λ t. ap {B = Assumption Message} Authenticated (eqb-true c d t)), (λ e. eq-eqb c d cc))
-equal_assumptions (Authenticated c) (Confidential d) = never (λ e. cc)
-equal_assumptions (Confidential c) (NonOriginating w) = never (λ e. cc)
-equal_assumptions (Confidential c) (UniquelyOriginating w n) = never (λ e. cc)
-equal_assumptions (Confidential c) (Authenticated d) = never (λ e. cc)
-equal_assumptions (Confidential c) (Confidential d) = ((λ t. ap {B = Assumption Message} Confidential (eqb-true c d t)), (λ e. eq-eqb c d cc))
+equal_assumptions a b = grind (arith, same_true, true_same, equal_nodes)

@@ -5,7 +5,6 @@ use Rattle.std.proofs.lemmas.Bool.{cases_lt}
 use Rattle.listing.proofs.Each.{each_push}
 use Rattle.message.specs.declared.stored.Symbol.TheVariants.{AsymmetricKey}
 use Rattle.message.specs.declared.stored.Stored.{Stored}
-use Rattle.message.specs.declared.stored.Stored.TheVariants.{Symbol, Inverse, Compound}
 use Rattle.message.specs.declared.stored.Entry.{Entry}
 use Rattle.message.specs.Message.{Message, symbol, size, well_sorted}
 use Rattle.message.specs.Meaning.{at, value, meanings, reach, no_entry, InOrder, Sized, Small, Distinct, WellSorted}
@@ -46,15 +45,4 @@ distinct_push ms m once none i j (hi, hj, e) = by (cases_lt i (length ms)) (case
 
 -- where no message stands twice, what is stored is known from its message
 pub value_injective : (ms : List Message) (a b : Stored) → Distinct ms → reach a ≤ length ms → reach b ≤ length ms → value ms a ≡ value ms b → a ≡ b
-value_injective ms (Symbol s n) (Symbol t k) once ha hb e = cc
-value_injective ms (Symbol s n) (Inverse k) once ha hb e = cc
-value_injective ms (Symbol s n) (Compound p u v) once ha hb e = cc
-value_injective ms (Inverse n) (Symbol t k) once ha hb e = cc
-value_injective ms (Inverse n) (Inverse k) once ha hb e = cc
-value_injective ms (Inverse n) (Compound p u v) once ha hb e = cc
-value_injective ms (Compound o x y) (Symbol t k) once ha hb e = cc
-value_injective ms (Compound o x y) (Inverse k) once ha hb e = cc
-value_injective ms (Compound o x y) (Compound p u v) once ha hb e =
-    let first : x ≡ u = once x u (omega arith, omega arith, cc) in
-    let second : y ≡ v = once y v (omega arith, omega arith, cc) in
-    cc
+value_injective ms a b once ha hb e = grind (arith, once)

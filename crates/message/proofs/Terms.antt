@@ -1,21 +1,16 @@
 -- The messages are the terms up to their equation. Every formed term equals the one that `term_of` gives for its
 -- message, so terms with the same message equal one another.
-use Rattle.std.proofs.Common.{◌≡◌, ℕ, Bool, true, ◌&&◌, Some, None, Option, sym, refl, ap, ◌∙◌, subst, ap₂, arith}
-use Rattle.std.proofs.lemmas.Bool.{and_parts, and_from, false≢true}
+use Rattle.std.proofs.Common.{◌≡◌, ℕ, Bool, true, ◌&&◌, Some, Option, sym, refl, ap, ◌∙◌, subst, ap₂, arith}
+use Rattle.std.proofs.lemmas.Bool.{and_parts, and_from}
 use Rattle.message.specs.declared.stored.Symbol.TheVariants.{AsymmetricKey, SymmetricKey, Datum, Tag}
 use Rattle.message.specs.declared.stored.Operation.{Operation}
 use Rattle.message.specs.declared.stored.Sort.{Sort}
-use Rattle.message.specs.declared.stored.Sort.TheVariants.{Asymmetric, Symmetric, Data}
+use Rattle.message.specs.declared.stored.Sort.TheVariants.{Asymmetric}
 use Rattle.message.specs.Message.{Message, symbol, inverse_key, compound, sort_of, is_sort, inverse, key_fits, well_sorted}
 use Rattle.message.specs.Terms.{Term, atom_or_tag, inverse_of, put_together, term_sort, formed, ◌≈◌, inverse_twice, itself, turned, chained, under_inverse, under_operation, normal, Algebra}
 
 involution : (m : Message) → inverse (inverse m) ≡ m
-involution (symbol AsymmetricKey n) = refl
-involution (symbol SymmetricKey n) = refl
-involution (symbol Datum n) = refl
-involution (symbol Tag n) = refl
-involution (inverse_key n) = refl
-involution (compound o x y) = refl
+involution m = grind arith
 
 -- equal terms
 
@@ -46,10 +41,7 @@ same_formed (under_operation {o = o} e f) = let s = same_sort f in let p = same_
 -- the sorts of a formed term and of its message
 
 is_asymmetric : (r : Option Sort) → is_sort Asymmetric r ≡ true → r ≡ Some Asymmetric
-is_asymmetric (Some Asymmetric) e = refl
-is_asymmetric (Some Symmetric) e = absurd (false≢true e)
-is_asymmetric (Some Data) e = absurd (false≢true e)
-is_asymmetric None e = absurd (false≢true e)
+is_asymmetric r e = grind arith
 
 -- the parts of a formed term, each with what is asked of it
 formed_inverse : (t : Term) → formed (inverse_of t) ≡ true → (term_sort t ≡ Some Asymmetric) × (formed t ≡ true)
@@ -59,12 +51,7 @@ formed_parts : (o : Operation) (x y : Term) → formed (put_together o x y) ≡ 
 formed_parts o x y h = let (k, both) = and_parts _ _ h in let (p, q) = and_parts _ _ both in (k, p, q)
 
 inverse_sorted : (m : Message) → sort_of m ≡ Some Asymmetric → (well_sorted (inverse m) ≡ true) × (sort_of (inverse m) ≡ Some Asymmetric)
-inverse_sorted (symbol AsymmetricKey n) s = (refl, refl)
-inverse_sorted (symbol SymmetricKey n) s = (refl, s)
-inverse_sorted (symbol Datum n) s = (refl, s)
-inverse_sorted (symbol Tag n) s = (refl, s)
-inverse_sorted (inverse_key n) s = (refl, refl)
-inverse_sorted (compound o x y) s = absurd (let z : ◌≡◌ {A = ℕ} 0 1 = cc in omega arith)
+inverse_sorted m s = grind arith
 
 sorted : (t : Term) → formed t ≡ true → (well_sorted (normal t) ≡ true) × (sort_of (normal t) ≡ term_sort t)
 sorted (atom_or_tag s n) h = (refl, refl)

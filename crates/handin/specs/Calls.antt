@@ -1,5 +1,5 @@
 -- The kinds of records, and the call that a record stands for.
-use Rattle.std.specs.Prelude.{◌≡◌, ℕ, ◌*◌, List, [], ◌∷◌, length, Some, None, Ok, Err, Option, Result}
+use Rattle.std.specs.Prelude.{◌≡◌, ℕ, ◌<◌, ◌⊎◌, List, [], ◌∷◌, Ok, Err, Result}
 use Rattle.refusal.specs.declared.Refusal.{Refusal}
 use Rattle.refusal.specs.Rows.{row}
 use Rattle.record.specs.Fields.{flat}
@@ -53,17 +53,7 @@ kind_number OfAssume = 5
 kind_number OfStrike = 6
 kind_number OfRelease = 7
 
--- how many fields the records of a kind have
-abbrev pub field_count : Kind → ℕ
-field_count OfEnter = 3
-field_count OfOpen = 0
-field_count OfAdd = 4
-field_count OfDraw = 4
-field_count OfAssume = 4
-field_count OfStrike = 4
-field_count OfRelease = 4
-
--- a body read as that of a record of this kind: the call with these fields, or none where their number is another
-abbrev pub Reads : List ℕ → Kind → Option Call → Type 0
-Reads body k (Some c) = (call_kind c ≡ kind_number k) × (body ≡ flat (call_fields c))
-Reads body k None = length body ≡ 2 * field_count k → ⊥
+-- the kind with this number; row 2 where no kind has it
+abbrev pub Listed : ℕ → Result Kind Refusal → Type 0
+Listed n (Ok k) = kind_number k ≡ n
+Listed n (Err q) = (row q ≡ 2) × ((n ≡ 0) ⊎ (7 < n))

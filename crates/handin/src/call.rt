@@ -1,9 +1,9 @@
 // The calls that records stand for.
-ghost use Rattle.std.specs.Option.{MatchOption};
+ghost use Rattle.std.specs.Prelude.{◌≡◌, ◌≢◌, [], ◌∷◌, length, MatchOption};
+ghost use Rattle.record.specs.Fields.{flat};
 ghost use Rattle.record.specs.Frame.{framed};
-ghost use Rattle.handin.specs.Calls.{NoCall, Of, Reads, StandsFor};
+ghost use Rattle.handin.specs.Calls.{NoCall, Of, StandsFor, kind_number};
 
-use crate::fields::{four, none, three, two_nodes};
 use crate::kind::Kind;
 use record::Record;
 use refusal::Refusal;
@@ -48,116 +48,65 @@ impl Call {
     pub fn read(record: &Record<'_>) -> Result<Call, Refusal>
         ensures { StandsFor (framed «record».now) result }
     {
-        match Call::found(record) {
-            Some(call) => Ok(call),
-            None => Err(Refusal::NotARecord),
-        }
+        let kind = Kind::try_from(record.kind)?;
+        Call::of_kind(kind, record).ok_or(Refusal::NotARecord)
     }
 
-    // The call of a record that is a call's.
-    fn found(record: &Record<'_>) -> Option<Call>
+    // The call of a record of this kind.
+    fn of_kind(kind: Kind, record: &Record<'_>) -> Option<Call>
+        requires { kind_number kind ≡ «record».now.kind }
         ensures { MatchOption result (NoCall (framed «record».now)) (Of (framed «record».now)) }
     {
-        let Some(kind) = Kind::listed(record.kind) else {
-            return None;
-        };
-        Call::of_kind(kind, record)
-    }
-
-    // The call of this kind with the fields of the record.
-    fn of_kind(kind: Kind, record: &Record<'_>) -> Option<Call>
-        ensures { Reads «record».now.body.now kind result }
-    {
         match kind {
-            Kind::Enter => Call::enter(record),
-            Kind::Open => Call::open(record),
-            Kind::Add => Call::add(record),
-            Kind::Draw => Call::draw(record),
-            Kind::Assume => Call::assume(record),
-            Kind::Strike => Call::strike(record),
-            Kind::Release => Call::release(record),
+            Kind::Enter => {
+                let [form, x, y] = record.fields::<3>()?;
+                Some(Call::Enter { form, x, y })
+            }
+            Kind::Open => {
+                let [] = record.fields::<0>()?;
+                Some(Call::Open)
+            }
+            Kind::Add => {
+                let [strand, sign, way, message] = record.fields::<4>()?;
+                Some(Call::Add {
+                    strand,
+                    sign,
+                    way,
+                    message,
+                })
+            }
+            Kind::Draw => {
+                let (from, to) = two_nodes(record)?;
+                Some(Call::Draw { from, to })
+            }
+            Kind::Assume => {
+                let [kind, value, strand, index] = record.fields::<4>()?;
+                Some(Call::Assume {
+                    kind,
+                    value,
+                    origin: (strand, index),
+                })
+            }
+            Kind::Strike => {
+                let (from, to) = two_nodes(record)?;
+                Some(Call::Strike { from, to })
+            }
+            Kind::Release => {
+                let [kind, value, strand, index] = record.fields::<4>()?;
+                Some(Call::Release {
+                    kind,
+                    value,
+                    origin: (strand, index),
+                })
+            }
         }
     }
+}
 
-    fn enter(record: &Record<'_>) -> Option<Call>
-        ensures { Reads «record».now.body.now Kind.Enter result }
-    {
-        let Some(fields) = three(record) else {
-            return None;
-        };
-        let (form, x, y) = fields;
-        Some(Call::Enter { form, x, y })
-    }
-
-    fn open(record: &Record<'_>) -> Option<Call>
-        ensures { Reads «record».now.body.now Kind.Open result }
-    {
-        if !none(record) {
-            return None;
-        }
-        Some(Call::Open)
-    }
-
-    fn add(record: &Record<'_>) -> Option<Call>
-        ensures { Reads «record».now.body.now Kind.Add result }
-    {
-        let Some(fields) = four(record) else {
-            return None;
-        };
-        let (strand, sign, way, message) = fields;
-        Some(Call::Add {
-            strand,
-            sign,
-            way,
-            message,
-        })
-    }
-
-    fn draw(record: &Record<'_>) -> Option<Call>
-        ensures { Reads «record».now.body.now Kind.Draw result }
-    {
-        let Some(nodes) = two_nodes(record) else {
-            return None;
-        };
-        let (from, to) = nodes;
-        Some(Call::Draw { from, to })
-    }
-
-    fn assume(record: &Record<'_>) -> Option<Call>
-        ensures { Reads «record».now.body.now Kind.Assume result }
-    {
-        let Some(fields) = four(record) else {
-            return None;
-        };
-        let (kind, value, strand, index) = fields;
-        Some(Call::Assume {
-            kind,
-            value,
-            origin: (strand, index),
-        })
-    }
-
-    fn strike(record: &Record<'_>) -> Option<Call>
-        ensures { Reads «record».now.body.now Kind.Strike result }
-    {
-        let Some(nodes) = two_nodes(record) else {
-            return None;
-        };
-        let (from, to) = nodes;
-        Some(Call::Strike { from, to })
-    }
-
-    fn release(record: &Record<'_>) -> Option<Call>
-        ensures { Reads «record».now.body.now Kind.Release result }
-    {
-        let Some(fields) = four(record) else {
-            return None;
-        };
-        let (kind, value, strand, index) = fields;
-        Some(Call::Release {
-            kind,
-            value,
-            origin: (strand, index),
-        })
-    }
+// The two nodes of a record that has their four fields.
+fn two_nodes(record: &Record<'_>) -> Option<(Node, Node)>
+    ensures { MatchOption result (length «record».now.body.now ≢ 8) (λ n. «record».now.body.now ≡ flat (n.0.0 ∷ n.0.1 ∷ n.1.0 ∷ n.1.1 ∷ [])) }
+{
+    let [strand, index, other_strand, other_index] = record.fields::<4>()?;
+    Some(((strand, index), (other_strand, other_index)))
 }

@@ -1,6 +1,7 @@
 // The kinds of records.
-ghost use Rattle.std.specs.Prelude.{◌≡◌, ◌<◌, ◌⊎◌, MatchOption};
-ghost use Rattle.handin.specs.Calls.{kind_number};
+ghost use Rattle.handin.specs.Calls.{Listed};
+
+use refusal::Refusal;
 
 #[derive(Clone, Copy)]
 pub(crate) enum Kind {
@@ -13,20 +14,22 @@ pub(crate) enum Kind {
     Release,
 }
 
-impl Kind {
-    // The kind with this number; the kinds are 1 to 7.
-    pub(crate) fn listed(number: u16) -> Option<Kind>
-        ensures { MatchOption result ((number ≡ 0) ⊎ (7 < number)) (λ kind. kind_number kind ≡ number) }
-    {
+// The kind with this number; the kinds are 1 to 7.
+impl TryFrom<u16> for Kind {
+    type Error = Refusal;
+
+    ghost try_from_gives = { Listed };
+
+    fn try_from(number: u16) -> Result<Self, Refusal> {
         match number {
-            1 => Some(Kind::Enter),
-            2 => Some(Kind::Open),
-            3 => Some(Kind::Add),
-            4 => Some(Kind::Draw),
-            5 => Some(Kind::Assume),
-            6 => Some(Kind::Strike),
-            7 => Some(Kind::Release),
-            _ => None,
+            1 => Ok(Kind::Enter),
+            2 => Ok(Kind::Open),
+            3 => Ok(Kind::Add),
+            4 => Ok(Kind::Draw),
+            5 => Ok(Kind::Assume),
+            6 => Ok(Kind::Strike),
+            7 => Ok(Kind::Release),
+            _ => Err(Refusal::NotARecord),
         }
     }
 }

@@ -2,7 +2,6 @@
 #![tactic(auto)]
 
 pub mod call;
-mod fields;
 mod kind;
 mod making;
 #[cfg(test)]

@@ -1,8 +1,7 @@
 -- Four head bytes and a long enough rest begin with one record, and no other.
 use Rattle.std.proofs.Common.{◌≡◌, ℕ, ◌+◌, ◌*◌, ◌/◌, ◌%◌, ◌<◌, ◌≤◌, List, [], ◌∷◌, ◌++◌, length, get_or, take, drop, sym, refl, ap, ◌∙◌, arith}
-use Rattle.std.proofs.lemmas.List.{length-drop, take-append-drop, take_at, take_rest, drop_at, drop-drop}
+use Rattle.std.proofs.lemmas.List.{take-append-drop, take_at, drop_at, drop-drop}
 use Rattle.record.specs.Frame.{Framed, two_bytes, frame}
-use Rattle.record.specs.Head.{Head}
 
 pub length_frame : (r : Framed) → length (frame r) ≡ 4 + length r.body
 length_frame r = omega arith
@@ -23,19 +22,21 @@ head_and_rest (a ∷ b ∷ []) h = absurd (omega arith)
 head_and_rest (a ∷ b ∷ c ∷ []) h = absurd (omega arith)
 head_and_rest (a ∷ b ∷ c ∷ d ∷ rest) h = refl
 
-pub length_rest : {bytes : List ℕ} {size kind : ℕ} {rest : List ℕ} → Head bytes size kind rest → 4 + length rest ≡ length bytes
-length_rest {bytes} h = omega (arith, ap length (h.rest_is ∙ take_rest bytes 4), length-drop 4 bytes)
+-- four bytes that state a size and a kind
+pub record Head (bytes : List ℕ) (size kind : ℕ) : Type 0 where
+  pub enough : 4 ≤ length bytes
+  pub size_is : two_bytes size ≡ get_or bytes 0 0 ∷ get_or bytes 1 0 ∷ []
+  pub kind_is : two_bytes kind ≡ get_or bytes 2 0 ∷ get_or bytes 3 0 ∷ []
 
--- where a head and then a record's body stand, the bytes are that record and what follows it
-pub begins_with : {bytes : List ℕ} {size kind : ℕ} {rest : List ℕ} (r : Framed) → Head bytes size kind rest →
-    length r.body ≡ size → r.kind ≡ kind → r.body ≡ take size rest → bytes ≡ frame r ++ drop (4 + length r.body) bytes
-begins_with {bytes} {size} {kind} {rest} r h n k b =
-    let u = two_bytes_of _ _ size h.len_low h.len_is in
-    let v = two_bytes_of _ _ kind h.kind_low h.kind_is in
-    let back : r.body ++ drop size rest ≡ rest = ap (λ (bs : List ℕ). bs ++ drop size rest) b ∙ take-append-drop size rest in
+-- where a record's head and then its body stand, the bytes are that record and what follows it
+pub begins_with : {bytes : List ℕ} {size : ℕ} (r : Framed) → Head bytes size r.kind → length r.body ≡ size → r.body ≡ take size (drop 4 bytes) →
+    bytes ≡ frame r ++ drop (4 + length r.body) bytes
+begins_with {bytes} {size} r h n b =
+    let all = head_and_rest bytes h.enough in
+    let s = h.size_is in
+    let k = h.kind_is in
     let far = drop-drop size 4 bytes in
-    let all = head_and_rest bytes h.head in
-    let is = h.rest_is ∙ take_rest bytes 4 in
+    let back = take-append-drop size (drop 4 bytes) in
     cc
 
 -- bytes that begin with two records begin with one

@@ -1,4 +1,3 @@
 pub mod Frames
-pub mod Places
-mod Partitions
-mod Readings
+pub mod Partitions
+pub mod Readings

@@ -1,11 +1,10 @@
 -- Every input of bytes is records and a rest in one way.
 use Rattle.std.proofs.Common.{◌≡◌, ℕ, zero, suc, ◌+◌, ◌*◌, ◌<◌, ◌≤◌, List, [], ◌∷◌, ◌++◌, length, take, drop, sym, refl, ap, ◌∙◌, subst, inl, inr, arith, lit<}
-use Rattle.std.proofs.lemmas.List.{append_assoc, length-append, length-drop, length-take-le, take_rest, get_or-drop}
+use Rattle.std.proofs.lemmas.List.{append_assoc, length-append, length-drop, length-take-le, get_or-drop}
 use Rattle.std.proofs.lemmas.Bool.{cases_lt}
 use Rattle.record.specs.Frame.{Framed, frame, frames}
-use Rattle.record.specs.Head.{Head}
 use Rattle.record.specs.Partition.{stated, NoMore, PlacedFrom, Bytes, RecordsPartition}
-use Rattle.record.proofs.Frames.{begins_with, same_front}
+use Rattle.record.proofs.Frames.{Head, two_bytes_of, begins_with, same_front}
 
 -- the records of bytes before which n others stand
 record From (n : ℕ) (input : List ℕ) : Type 0 where
@@ -47,16 +46,12 @@ some (suc fuel) n (a ∷ b ∷ c ∷ d ∷ t) l h =
       | inl short ↦ none n _ (inr (record { some = omega arith; short = inr (omega arith) }))
       | inr long ↦
           let r : Framed = record { place = n; kind = c + d * 256; body = take (a + b * 256) t } in
-          let is : length r.body ≡ a + b * 256 = length-take-le (a + b * 256) t long in
-          let head : Head (a ∷ b ∷ c ∷ d ∷ t) (a + b * 256) (c + d * 256) t = record {
-            head = omega arith;
-            len_low = h 0 (omega arith);
-            len_is = refl;
-            kind_low = h 2 (omega arith);
-            kind_is = refl;
-            rest_is = sym (take_rest (a ∷ b ∷ c ∷ d ∷ t) 4);
+          let head : Head (a ∷ b ∷ c ∷ d ∷ t) (a + b * 256) r.kind = record {
+            enough = omega arith;
+            size_is = two_bytes_of a b _ (h 0 (omega arith)) refl;
+            kind_is = two_bytes_of c d _ (h 2 (omega arith)) refl;
           } in
-          let whole = begins_with r head is refl refl in
+          let whole = begins_with r head (length-take-le (a + b * 256) t long) refl in
           let m = 4 + length r.body in
           let after = drop m (a ∷ b ∷ c ∷ d ∷ t) in
           subst (From n) (sym whole)

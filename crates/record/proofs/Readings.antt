@@ -1,23 +1,21 @@
 -- What a call of the reader says of every list of records passed before it, and what calls in a row say.
 use Rattle.std.proofs.Common.{◌≡◌, ℕ, ◌+◌, ◌*◌, ◌≤◌, List, [], ◌∷◌, ◌++◌, length, take, drop, Some, None, Ok, Err, sym, refl, ap, ◌∙◌, subst, inl, inr, arith}
-use Rattle.std.proofs.lemmas.List.{append-nil, append_assoc, length-append, length-take-le, take-append-drop, take_at, take_rest, drop_all, drop-drop, flat_map_more}
+use Rattle.std.proofs.lemmas.List.{append-nil, append_assoc, length-append, length-take-le, take-append-drop, take_at, drop_all, drop-drop, flat_map_more}
 use Rattle.record.specs.declared.Reader.{Reader}
 use Rattle.record.specs.declared.Record.{Record}
 use Rattle.record.specs.Frame.{Framed, framed, frame, frames}
-use Rattle.record.specs.Head.{Head}
+use Rattle.record.specs.Partition.{PlacedFrom}
 use Rattle.record.specs.Reads.{Reply, left, Read, Step, Recorded, handed, Whole, Answered, Calls, no_call, then_call, Continues}
-use Rattle.record.proofs.Frames.{length_frame, begins_with}
-use Rattle.record.proofs.Places.{placed_more}
+use Rattle.record.proofs.Frames.{Head, length_frame, begins_with}
 
--- a record is read where the head and the bytes after it have it
-pub read : {reader : Reader} {r : Record} {reader' : Reader} {size kind : ℕ} {rest : List ℕ} →
-    reader'.input.now ≡ reader.input.now → r.place ≡ reader.place → reader'.place ≡ reader.place + (4 + length r.body.now) →
-    Head (left reader) size kind rest → length r.body.now ≡ size → r.kind ≡ kind → r.body.now ≡ take size rest → Read reader r reader'
-read {reader} {r} {reader'} {size} {kind} {rest} i p m h n k b =
+-- a record is read where its head and then its body stand
+pub read : {reader : Reader} {r : Record} {reader' : Reader} {size : ℕ} → reader'.input.now ≡ reader.input.now →
+    r.place ≡ reader.place → reader'.place ≡ reader.place + (4 + length r.body.now) →
+    Head (left reader) size r.kind → length r.body.now ≡ size → r.body.now ≡ take size (drop 4 (left reader)) → Read reader r reader'
+read {reader} {r} {reader'} i p m h n b =
     let far = drop-drop (4 + length r.body.now) reader.place reader.input.now in
-    let near : rest ≡ drop (reader.place + 4) reader.input.now =
-    h.rest_is ∙ take_rest (left reader) 4 ∙ drop-drop 4 reader.place reader.input.now in
-    record { bytes = begins_with (framed r) h n k b ∙ cc; place = p; moves = m; body = cc }
+    let near = drop-drop 4 reader.place reader.input.now in
+    record { bytes = begins_with (framed r) h n b ∙ cc; place = p; moves = m; body = cc }
 
 -- the input is the records passed and what is left
 divided : (rs : List Framed) (reader : Reader) → Recorded rs reader → reader.input.now ≡ frames rs ++ left reader
@@ -27,6 +25,12 @@ divided rs reader h =
 -- as many bytes are passed as the records have
 passed : (rs : List Framed) (reader : Reader) → Recorded rs reader → length (frames rs) ≡ reader.place
 passed rs reader h = ap length h.bytes ∙ length-take-le reader.place reader.input.now reader.within
+
+-- one more record, placed at the end of the others
+placed_more : (n : ℕ) (rs : List Framed) (r : Framed) → PlacedFrom n rs → r.place ≡ n + length (frames rs) → PlacedFrom n (rs ++ r ∷ [])
+placed_more n [] r h p = (omega arith, tt)
+placed_more n (q ∷ rs) r h p =
+    (h.0, placed_more (n + length (frame q)) rs r h.1 (omega (arith, length-append (frame q) (frames rs))))
 
 -- after a record is read, it stands last among those passed
 recorded_next : (rs : List Framed) (reader : Reader) (r : Record) (reader' : Reader) → Recorded rs reader →

@@ -1,5 +1,4 @@
 pub mod Frame
 pub mod Partition
 pub mod Reads
-pub mod Head
 pub mod Fields

@@ -5,6 +5,7 @@
 ghost use Rattle.std.specs.Prelude.{◌≤◌, length};
 
 mod fields;
+mod number;
 mod opening;
 mod reading;
 #[cfg(test)]

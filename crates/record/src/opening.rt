@@ -1,5 +1,5 @@
 // A reader before its first record, and where it stands.
-ghost use Rattle.std.specs.Prelude.{◌≡◌, ◌≤◌, [], length};
+ghost use Rattle.std.specs.Prelude.{◌≡◌, []};
 ghost use Rattle.record.specs.Partition.{RecordsPartition};
 ghost use Rattle.record.specs.Reads.{Recorded, Continues};
 
@@ -8,6 +8,7 @@ use super::Reader;
 impl<'a> Reader<'a> {
     // A reader at the start of the input. The records that it will hand out are those of the input: every input is
     // records and a rest in just one way.
+    #[tactic(auto, using(crate::proofs::Readings::continues, crate::proofs::Partitions::partitions))]
     pub fn new(input: &'a [u8]) -> Reader<'a>
         ensures input { result.input.now ≡ input.now }
         ensures place { result.place ≡ 0 }
@@ -15,18 +16,7 @@ impl<'a> Reader<'a> {
         ensures continues { Continues result }
         ensures partition { RecordsPartition }
     {
-        Reader::at(input, 0)
-    }
-
-    // A reader whose next record begins at `place`.
-    fn at(input: &'a [u8], place: usize) -> Reader<'a>
-        requires { place ≤ length input.now }
-        ensures input { result.input.now ≡ input.now }
-        ensures place { result.place ≡ place }
-        ensures continues { Continues result }
-        ensures partition { RecordsPartition }
-    {
-        Reader { input, place }
+        Reader { input, place: 0 }
     }
 
     // Where the next record begins.

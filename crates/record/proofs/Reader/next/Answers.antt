@@ -1,20 +1,23 @@
--- The ways out of a call before a head has been read: at the end of the input, and inside a head.
-use Rattle.std.proofs.Common.{refl, inl, arith, rules}
-use Rattle.std.proofs.lemmas.List.{take_rest, length-drop}
-use Rattle.std.proofs.lemmas.Bool.Decides.{nat_tests}
-use Rattle.record.specs.Partition.{TruncatedAt}
+-- The ways out of a call: at the end of the input, inside a head, and with a record.
+use Rattle.std.proofs.Common.{refl, arith, ◌≡◌, ◌-◌}
+use Rattle.std.proofs.lemmas.Grind.{common_steps}
+use Rattle.std.proofs.lemmas.List.{take_rest}
 use Rattle.record.specs.Reads.{left}
-use Rattle.record.proofs.Readings.{answered}
+use Rattle.record.proofs.Readings.{answered, read}
+use Rattle.record.proofs.Frames.{Head}
 use Rattle.record.proofs.Reader.next.Goals as goal
 
-pub returns-then-is_empty : goal.returns-then-is_empty
-returns-then-is_empty c =
-    let n = length-drop c.args.self.now.place c.args.self.now.input.now in
-    let e = simp take_rest at c.if-is_empty.ensures in
-    answered (record { input = refl; replied = record { all = grind (arith, nat_tests); stays = refl } })
+pub returns : goal.returns
+returns c =
+    let found = c.in_ok-body.ensures.ok_part in
+    let body = rw found at simp take_rest at c.get.ensures.lookup in
+    let h : Head (left c.args.self.now) c.number-length.result c.number-kind.result = record {
+      enough = simp take_rest at c.in-len4-up.len_at_least;
+      size_is = simp take_rest at c.number-length.ensures;
+      kind_is = simp take_rest at c.number-kind.ensures;
+    } in
+    let all : c.from.result - 0 ≡ c.number-length.result = omega arith in
+    answered (record { input = refl; replied = read refl refl refl h (omega arith) (rw all at body.0.2) })
 
-pub returns-in_default : goal.returns-in_default
-returns-in_default c =
-    let e = simp take_rest at c.if-is_empty.ensures in
-    let cut : TruncatedAt (left c.args.self.now) = record { some = grind (arith, nat_tests); short = inl (search (rules, length-drop)) } in
-    answered (record { input = refl; replied = record { row_one = refl; truncated = cut; stays = refl } })
+pub returns-in_err-body : goal.returns-in_err-body
+returns-in_err-body c = grind (arith, common_steps)

@@ -1,5 +1,7 @@
 -- Events: the numbers of signs and ways, and events with messages in place of their numbers.
-use Rattle.std.specs.Prelude.{ℕ, Bool, cond, ◌&&◌, List, ◌==◌, nat_le}
+use Rattle.std.specs.Prelude.{◌≡◌, ℕ, ◌<◌, ◌≤◌, Bool, cond, ◌&&◌, List, Result, MatchResult, ◌==◌, nat_le}
+use Rattle.refusal.specs.declared.Refusal.{Refusal}
+use Rattle.refusal.specs.declared.Refusal.TheVariants.{NotListed}
 use Rattle.message.specs.Message.{Message}
 use Rattle.message.specs.Meaning.{at}
 use Rattle.strand.specs.declared.event.Sign.{Sign}
@@ -20,6 +22,10 @@ is_sign n = nat_le n (sign_number Transmits)
 -- the sign with a number (numbers from 2 on are no sign's: the rules refuse those before)
 abbrev pub sign_at : ℕ → Sign
 sign_at n = cond (n == 0) Receives Transmits
+
+-- what is answered for a number: the sign with it, or that it is not listed
+abbrev pub SignListed : ℕ → Result Sign Refusal → Type 0
+SignListed n r = MatchResult r (λ s. (n ≤ 1) × (sign_number s ≡ n) × (s ≡ sign_at n)) (λ e. (1 < n) × (e ≡ NotListed))
 
 -- the ways by number
 abbrev pub way_number : Way → ℕ

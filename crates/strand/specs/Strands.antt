@@ -1,15 +1,15 @@
 -- The strands of a book, by number, and what the calls on them answer and leave.
-use Rattle.std.specs.Prelude.{◌≡◌, ℕ, ◌<◌, ◌≤◌, ◌⊎◌, List, [], ◌∷◌, ◌++◌, map, length, take, Ok, Err, vec_items, vec_capacity, Result, slice_set}
+use Rattle.std.specs.Prelude.{◌≡◌, ℕ, ◌<◌, ◌≤◌, ◌⊎◌, List, [], ◌∷◌, ◌++◌, map, length, Ok, Err, vec_items, vec_capacity, Result, slice_set}
+use Rattle.arrayvec.specs.ArrayVec.{ArrayVec}
 use Rattle.refusal.specs.declared.Refusal.{Refusal}
 use Rattle.refusal.specs.Rows.{row}
 use Rattle.strand.specs.declared.event.Event.{Event}
-use Rattle.strand.specs.declared.strand.Strand.{Strand}
 use Rattle.strand.specs.declared.strand.Strands.{Strands}
 use Rattle.strand.specs.Node.{event_limit, strand_at, strand_limit}
 
 -- the events of a strand, in order
-abbrev pub events_of : Strand → List (Event ℕ)
-events_of s = take s.len s.events
+abbrev pub events_of : ArrayVec (Event ℕ) → List (Event ℕ)
+events_of s = s.items
 
 -- the events of all strands
 abbrev pub strands_of : Strands → List (List (Event ℕ))

@@ -1,27 +1,11 @@
 // Reading the strands: how many there are, the events of one, and the event at a node.
-ghost use Rattle.std.specs.Prelude.{◌≡◌, ℕ, ◌<◌, ◌≤◌, length, None as NoEvent, MatchOption};
-ghost use Rattle.std.specs.List.{slice_get};
+ghost use Rattle.std.specs.Prelude.{◌≡◌, ℕ, ◌<◌, ◌≤◌, length, MatchOption};
 ghost use Rattle.strand.specs.Node.{event_at, event_limit, strand_at, strand_limit};
-ghost use Rattle.strand.specs.Strands.{events_of, strands_of};
+ghost use Rattle.strand.specs.Strands.{strands_of};
 
 use crate::event::Event;
-use crate::strand::{Node, Strand, Strands};
-
-impl Strand {
-    // The events, in order.
-    fn events(&self) -> &[Event]
-        ensures { result.now ≡ events_of self.now }
-    {
-        &self.events[..self.len]
-    }
-
-    // The event at this index.
-    fn event(&self, index: u16) -> Option<Event>
-        ensures { result ≡ slice_get (events_of self.now) index }
-    {
-        self.events().get(index as usize).copied()
-    }
-}
+use crate::strand::{Node, Strands};
+use arrayvec::ArrayVec;
 
 impl Strands {
     // How many strands there are.
@@ -36,26 +20,13 @@ impl Strands {
     pub fn events(&self, strand: u16) -> Option<&[Event]>
         ensures { MatchOption result (length (strands_of self.now) ≤ strand) (λ es. (strand < length (strands_of self.now)) × (es.now ≡ strand_at (strands_of self.now) strand)) }
     {
-        let Some(found) = self.strand(strand) else {
-            return None;
-        };
-        Some(found.events())
+        self.strands.get(strand as usize).map(ArrayVec::as_slice)
     }
 
     // The event at a node.
     pub fn event(&self, node: Node) -> Option<Event>
         ensures { result ≡ event_at (strands_of self.now) node }
     {
-        let Some(found) = self.strand(node.0) else {
-            return None;
-        };
-        found.event(node.1)
-    }
-
-    // The strand with this number. One that is not there has no events.
-    fn strand(&self, number: u16) -> Option<&Strand>
-        ensures { MatchOption result ((length (strands_of self.now) ≤ number) × ((i : ℕ) → event_at (strands_of self.now) (number, i) ≡ NoEvent)) (λ s. (number < length (strands_of self.now)) × (events_of s.now ≡ strand_at (strands_of self.now) number)) }
-    {
-        self.strands.get(number as usize)
+        self.events(node.0)?.get(node.1 as usize).copied()
     }
 }

@@ -4,11 +4,11 @@ ghost use Rattle.strand.specs.Node.{Codes, InRange, code as code_of, event_limit
 
 use crate::strand::{EVENT_LIMIT, Node, STRAND_LIMIT};
 
-// Whether two nodes are one.
+// Whether two nodes are one: their `==`, in the word of the specs.
 pub fn is_same(m: Node, n: Node) -> bool
     ensures { result ≡ same_node m n }
 {
-    m.0 == n.0 && m.1 == n.1
+    m == n
 }
 
 // The code of a node whose strand number and index are below the limits.

@@ -1,8 +1,9 @@
 // Signs, ways and channels by number.
 ghost use Rattle.std.specs.Prelude.{◌≡◌, ◌<◌, ◌≤◌, true, false, MatchOption};
-ghost use Rattle.strand.specs.Event.{channel_limit, is_channel, sign_at, sign_number, way_at, way_number};
+ghost use Rattle.strand.specs.Event.{SignListed, channel_limit, is_channel, sign_number, way_at, way_number};
 
 use crate::event::{Sign, Way};
+use refusal::Refusal;
 
 // Channels are numbered from 1 to this.
 pub const CHANNEL_LIMIT: u16 = 64;
@@ -17,23 +18,27 @@ pub fn channel(number: u16) -> Option<u16>
     Some(number)
 }
 
-impl Sign {
-    // The sign with this number.
-    pub fn listed(number: u16) -> Option<Sign>
-        ensures { MatchOption result (1 < number) (λ s. (number ≤ 1) × (sign_number s ≡ number) × (s ≡ sign_at number)) }
-    {
+// The sign with this number.
+impl TryFrom<u16> for Sign {
+    type Error = Refusal;
+
+    ghost try_from_gives = { SignListed };
+
+    fn try_from(number: u16) -> Result<Self, Refusal> {
         match number {
-            0 => Some(Sign::Receives),
-            1 => Some(Sign::Transmits),
-            _ => None,
+            0 => Ok(Sign::Receives),
+            1 => Ok(Sign::Transmits),
+            _ => Err(Refusal::NotListed),
         }
     }
+}
 
-    // The sign's number.
-    pub fn number(self) -> u16
-        ensures { result ≡ sign_number self }
-    {
-        match self {
+// The sign's number.
+impl From<Sign> for u16 {
+    ghost from_gives = { λ sign number. number ≡ sign_number sign };
+
+    fn from(sign: Sign) -> u16 {
+        match sign {
             Sign::Receives => 0,
             Sign::Transmits => 1,
         }
@@ -45,20 +50,19 @@ impl Way {
     pub fn listed(number: u16) -> Option<Way>
         ensures { MatchOption result (channel_limit < number) (λ w. (number ≤ channel_limit) × (way_number w ≡ number) × (w ≡ way_at number)) }
     {
-        if number == 0 {
-            return Some(Way::Plain);
+        match number {
+            0 => Some(Way::Plain),
+            _ => channel(number).map(Way::Channel),
         }
-        let Some(channel) = channel(number) else {
-            return None;
-        };
-        Some(Way::Channel(channel))
     }
+}
 
-    // The way's number.
-    pub fn number(self) -> u16
-        ensures { result ≡ way_number self }
-    {
-        match self {
+// The way's number.
+impl From<Way> for u16 {
+    ghost from_gives = { λ way number. number ≡ way_number way };
+
+    fn from(way: Way) -> u16 {
+        match way {
             Way::Plain => 0,
             Way::Channel(number) => number,
         }

@@ -1,15 +1,14 @@
 // Where a value originates on a trace.
-ghost use Rattle.std.specs.Prelude.{◌≡◌, ℕ, ◌<◌, ◌≤◌, length, MatchOption};
+ghost use Rattle.std.specs.Prelude.{◌<◌, ◌↔◌, length, IsTrue, MatchOption};
+ghost use Rattle.message.specs.Carried.{Carried};
 ghost use Rattle.message.specs.Meaning.{at};
-ghost use Rattle.message.specs.Message.{Message as Tree};
-ghost use Rattle.strand.specs.Origin.{OriginOf};
 ghost use Rattle.strand.specs.Lent.{table_of, trace_of};
-ghost use Rattle.strand.specs.Seeking.{First, IsCarried, NoneBefore, Nowhere, SignSays};
+ghost use Rattle.strand.specs.Origin.{OriginOf};
+ghost use Rattle.strand.specs.Seeking.{Decided, Nowhere};
 ghost use Rattle.strand.specs.Trace.{OriginatesOnce};
 
-use crate::event::Sign;
+use crate::event::{Event, Sign};
 use crate::trace::Trace;
-use message::stored::Stored;
 use refusal::Refusal;
 
 impl<'a> Trace<'a> {
@@ -19,62 +18,37 @@ impl<'a> Trace<'a> {
         ensures found { OriginOf (table_of self.now) (trace_of self.now) value result }
         ensures once { OriginatesOnce }
     {
-        let Some(_) = self.message(value) else {
+        let Some(_) = self.messages.get(value) else {
             return Err(Refusal::NotThere);
         };
-        let Some(index) = self.first_carrying(value) else {
-            return Ok(None);
-        };
-        match self.sign(index) {
-            Sign::Receives => Ok(None),
-            Sign::Transmits => Ok(Some(index)),
+        match self.first_carrying(value) {
+            Some((index, Sign::Transmits)) => Ok(Some(index)),
+            Some((_, Sign::Receives)) | None => Ok(None),
         }
     }
 
-    // The message with this number.
-    fn message(&self, number: u16) -> Option<Stored>
-        ensures there { MatchOption result (length (table_of self.now) ≤ number) (λ _. number < length (table_of self.now)) }
+    // The index and the sign of the first event that carries the value.
+    fn first_carrying(&self, value: u16) -> Option<(u16, Sign)>
+        requires { value < length (table_of self.now) }
+        ensures decided { MatchOption result
+            (Nowhere (trace_of self.now) (at (table_of self.now) value))
+            (λ e. Decided (trace_of self.now) (at (table_of self.now) value) e.0 e.1) }
         ensures once { OriginatesOnce }
     {
-        self.messages.get(number)
-    }
-
-    // The index of the first event that carries the value.
-    fn first_carrying(&self, value: u16) -> Option<u16>
-        requires { value < length (table_of self.now) }
-        ensures { MatchOption result (Nowhere (trace_of self.now) (at (table_of self.now) value)) (λ i. (i < length self.now.events.now) × First (trace_of self.now) i (at (table_of self.now) value)) }
-    {
-        for index in 0..self.len() as u16 {
-            if self.carries(value, index) {
-                return Some(index);
+        for (index, event) in self.events.iter().enumerate() {
+            if self.carries(value, event) {
+                return Some((index as u16, event.sign));
             }
         }
         None
     }
 
-    // How many events there are.
-    fn len(&self) -> usize
-        ensures count { result ≡ length self.now.events.now }
-        ensures ends { (v : Tree) (i : ℕ) → NoneBefore (trace_of self.now) i v → result ≤ i → Nowhere (trace_of self.now) v }
-    {
-        self.events.len()
-    }
-
-    // Whether the message of the event at this index carries the value.
-    fn carries(&self, value: u16, index: u16) -> bool
+    // Whether the message of this event carries the value.
+    fn carries(&self, value: u16, event: &Event) -> bool
         requires value { value < length (table_of self.now) }
-        requires index { index < length self.now.events.now }
-        ensures { IsCarried (trace_of self.now) index (at (table_of self.now) value) result }
+        requires message { event.now.message < length (table_of self.now) }
+        ensures { IsTrue result ↔ Carried (at (table_of self.now) value) (at (table_of self.now) event.now.message) }
     {
-        let message = self.events[index as usize].message;
-        self.messages.carried(value, message).unwrap_or(false)
-    }
-
-    // The sign of the event at this index.
-    fn sign(&self, index: u16) -> Sign
-        requires { index < length self.now.events.now }
-        ensures { SignSays (trace_of self.now) index result }
-    {
-        self.events[index as usize].sign
+        self.messages.carried(value, event.message) == Some(true)
     }
 }

@@ -106,10 +106,11 @@ fn origin<'a>(
     if events.len() > EVENT_LIMIT {
         return Err(Refusal::OverLimit);
     }
-    for event in events {
-        if event.message as usize >= messages.len() {
-            return Err(Refusal::NotThere);
-        }
+    if events
+        .iter()
+        .any(|event| event.message as usize >= messages.len())
+    {
+        return Err(Refusal::NotThere);
     }
     Trace { messages, events }.origin(value)
 }

@@ -6,7 +6,6 @@
 mod claim;
 mod naming;
 mod reply;
-mod spelled;
 mod spelled_event;
 mod standing;
 #[cfg(test)]
@@ -16,22 +15,11 @@ mod words;
 use book::book::Book;
 use handin::call::Call;
 use record::Reader;
-use refusal::Refusal;
 use reply::Reply;
-use std::alloc::Global;
+use spelling::refused::Refused;
+use spelling::source::input;
 use std::io;
-use std::io::Read;
 use words::InWords;
-
-// How many bytes are read; what comes after them counts as absent.
-const INPUT_LIMIT: u64 = 40_960;
-
-// What the source has, as far as the limit.
-fn input<R: Read + Drop>(heap: Global, source: R) -> io::Result<Vec<u8>> {
-    let mut bytes = Vec::new(heap);
-    source.take(INPUT_LIMIT).read_to_end(&mut bytes)?;
-    Ok(bytes)
-}
 
 // Makes the call, and prints it with its reply.
 fn answer(rt: &HostRuntime, book: &mut Book, place: usize, call: Call) -> io::Result<()> {
@@ -47,32 +35,22 @@ fn answer(rt: &HostRuntime, book: &mut Book, place: usize, call: Call) -> io::Re
             };
             println!(rt; "byte {place}: {words}: {reply}")
         }
-        Err(refusal) => {
-            let row = refusal.number();
-            println!(rt; "byte {place}: {words}: refused, row {row}: {refusal}")
-        }
+        Err(refusal) => { println!(rt; "byte {place}: {words}: {}", Refused(refusal)) }
     }
 }
 
-// The line of a record that is no call.
-fn refuse(rt: &HostRuntime, place: usize, refusal: Refusal) -> io::Result<()> {
-    let row = refusal.number();
-    println!(rt; "byte {place}: refused, row {row}: {refusal}")
-}
-
-// A line for each record, until the input or the reading ends.
+// A line for each record, until the input or the reading ends. (`notes` has this loop over its own calls: a trait for both,
+// with a type in each program that has it, would be longer.)
 fn read(rt: &HostRuntime, input: &[u8], book: &mut Book) -> io::Result<()> {
     let mut reader = Reader::new(input);
     loop {
         let place = reader.place();
-        let call = match reader.next() {
-            Ok(None) => return Ok(()),
-            Ok(Some(record)) => Call::read(&record),
-            Err(refusal) => Err(refusal),
+        let Some(record) = reader.next().transpose() else {
+            return Ok(());
         };
-        match call {
+        match record.and_then(|record| Call::read(&record)) {
             Ok(call) => answer(rt, book, place, call)?,
-            Err(refusal) => return refuse(rt, place, refusal),
+            Err(refusal) => return println!(rt; "byte {place}: {}", Refused(refusal)),
         }
     }
 }

@@ -26,7 +26,7 @@ impl fmt::Display for Ends {
     }
 }
 
-// A way by its number, behind a message: nothing where it is plain.
+// A way by its number, which in a call need not be listed, behind a message: nothing where it is plain.
 #[derive(Clone, Copy)]
 pub struct OnWay(pub u16);
 

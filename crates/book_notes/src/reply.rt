@@ -1,10 +1,11 @@
 // What a call that was not refused did, in words.
 use crate::naming::NamedNode;
-use crate::spelled::Spelled;
 use crate::spelled_event::SpelledEvent;
 use book::book::Book;
 use handin::call::Call;
+use spelling::entered::Entered;
 use std::fmt;
+use std::fmt::Display;
 use strand::strand::Node;
 
 #[derive(Clone, Copy)]
@@ -20,9 +21,22 @@ impl fmt::Display for Reply<'_> {
     fn fmt<W: fmt::Write>(&self, f: &mut fmt::Formatter<W>) -> fmt::Result {
         let number = self.number;
         match self.call {
-            Call::Enter { .. } => entered(self.book, self.before, number, f),
+            Call::Enter { .. } => {
+                let entered = Entered {
+                    messages: self.book.messages(),
+                    before: self.before,
+                    number,
+                };
+                entered.fmt(f)
+            }
             Call::Open => write!(f, "strand {number}"),
-            Call::Add { strand, .. } => added(self.book, (strand, number), f),
+            Call::Add { strand, .. } => {
+                let added = Added {
+                    book: self.book,
+                    node: (strand, number),
+                };
+                added.fmt(f)
+            }
             Call::Draw { .. } => write!(f, "arrow {number}"),
             Call::Assume { .. } => write!(f, "assumption {number}"),
             Call::Strike { .. } => write!(f, "it was arrow {number}"),
@@ -31,33 +45,25 @@ impl fmt::Display for Reply<'_> {
     }
 }
 
-fn entered<W: fmt::Write>(
-    book: &Book,
-    before: usize,
-    number: u16,
-    f: &mut fmt::Formatter<W>,
-) -> fmt::Result {
-    let messages = book.messages();
-    let message = Spelled { messages, number };
-    let again = if (number as usize) < before {
-        ", entered before"
-    } else {
-        ""
-    };
-    write!(f, "message {number} is {message}{again}")
+// The event that was added to the book at this node.
+#[derive(Clone, Copy)]
+pub struct Added<'a> {
+    pub book: &'a Book,
+    pub node: Node,
 }
 
-fn added<W: fmt::Write>(book: &Book, node: Node, f: &mut fmt::Formatter<W>) -> fmt::Result {
-    let Some(trace) = book.trace(node.0) else {
-        return Ok(());
-    };
-    let Some(event) = trace.events.get(node.1 as usize).copied() else {
-        return Ok(());
-    };
-    let event = SpelledEvent {
-        messages: trace.messages,
-        event,
-    };
-    let node = NamedNode(node);
-    write!(f, "node {node} {event}")
+impl fmt::Display for Added<'_> {
+    fn fmt<W: fmt::Write>(&self, f: &mut fmt::Formatter<W>) -> fmt::Result {
+        let (strand, index) = self.node;
+        let Some(trace) = self.book.trace(strand) else {
+            return Ok(());
+        };
+        let Some(event) = trace.events.get(index as usize).copied() else {
+            return Ok(());
+        };
+        let messages = trace.messages;
+        let event = SpelledEvent { messages, event };
+        let node = NamedNode(self.node);
+        write!(f, "node {node} {event}")
+    }
 }

@@ -1,7 +1,7 @@
 // An event in words, its message spelled.
 use crate::naming::OnWay;
-use crate::spelled::Spelled;
 use message::table::Messages;
+use spelling::spelled::Spelled;
 use std::fmt;
 use strand::event::{Event, Sign};
 
@@ -17,7 +17,7 @@ impl fmt::Display for SpelledEvent<'_> {
             messages: self.messages,
             number: self.event.message,
         };
-        let on = OnWay(self.event.way.number());
+        let on = OnWay(self.event.way.into());
         match self.event.sign {
             Sign::Receives => write!(f, "receives {message}{on}"),
             Sign::Transmits => write!(f, "transmits {message}{on}"),

@@ -1,12 +1,12 @@
 // What stands in a book, printed part by part.
-use crate::claim::{Property, Subject};
+use crate::claim::SpelledClaim;
 use crate::naming::{Ends, NamedNode};
-use crate::spelled::Spelled;
 use crate::spelled_event::SpelledEvent;
 use assumption::assumption::Assumption;
 use book::book::Book;
 use bundle::arrow::Arrow;
 use message::table::Messages;
+use spelling::spelled::Spelled;
 use std::io;
 use strand::trace::Trace;
 
@@ -19,11 +19,11 @@ pub(crate) fn print(rt: &HostRuntime, book: &Book) -> io::Result<()> {
 }
 
 fn messages(rt: &HostRuntime, messages: &Messages) -> io::Result<()> {
-    let count = messages.len();
-    if count == 0 {
+    if messages.len() == 0 {
         return println!(rt; "no messages");
     }
-    for number in 0..count as u16 {
+    // Messages are named by number: a table lends no list of them.
+    for number in 0..messages.len() as u16 {
         let message = Spelled { messages, number };
         println!(rt; "message {number} is {message}")?;
     }
@@ -34,12 +34,12 @@ fn strands(rt: &HostRuntime, book: &Book) -> io::Result<()> {
     if book.strand_count() == 0 {
         return println!(rt; "no strands");
     }
-    for number in 0..=u16::MAX {
-        let Some(trace) = book.trace(number) else {
-            break;
-        };
-        println!(rt; "strand {number}")?;
-        events(rt, number, trace)?;
+    // So are strands: a book lends the trace of one.
+    for number in 0..book.strand_count() as u16 {
+        if let Some(trace) = book.trace(number) {
+            println!(rt; "strand {number}")?;
+            events(rt, number, trace)?;
+        }
     }
     Ok(())
 }
@@ -48,12 +48,10 @@ fn events(rt: &HostRuntime, strand: u16, trace: Trace<'_>) -> io::Result<()> {
     if trace.events.is_empty() {
         return println!(rt; "  no events");
     }
-    for index in 0..trace.events.len() {
+    let messages = trace.messages;
+    for (index, &event) in trace.events.iter().enumerate() {
         let node = NamedNode((strand, index as u16));
-        let event = SpelledEvent {
-            messages: trace.messages,
-            event: trace.events[index],
-        };
+        let event = SpelledEvent { messages, event };
         println!(rt; "  {node} {event}")?;
     }
     Ok(())
@@ -63,8 +61,8 @@ fn arrows(rt: &HostRuntime, arrows: &[Arrow]) -> io::Result<()> {
     if arrows.is_empty() {
         return println!(rt; "no arrows");
     }
-    for position in 0..arrows.len() {
-        let ends = Ends(arrows[position]);
+    for (position, &arrow) in arrows.iter().enumerate() {
+        let ends = Ends(arrow);
         println!(rt; "arrow {position} {ends}")?;
     }
     Ok(())
@@ -78,17 +76,12 @@ fn assumptions(
     if assumptions.is_empty() {
         return println!(rt; "no assumptions");
     }
-    for position in 0..assumptions.len() {
-        let assumption = assumptions[position];
-        let property = Property(assumption);
-        let subject = Subject::of(assumption);
-        match subject {
-            Subject::Message(number) => {
-                let value = Spelled { messages, number };
-                println!(rt; "assumption {position}: {value} {property}")?;
-            }
-            Subject::Channel(_) => println!(rt; "assumption {position}: {subject} {property}")?,
-        }
+    for (position, &assumption) in assumptions.iter().enumerate() {
+        let claim = SpelledClaim {
+            messages,
+            assumption,
+        };
+        println!(rt; "assumption {position}: {claim}")?;
     }
     Ok(())
 }

@@ -1,17 +1,8 @@
-// The limit of the input, and calls in words.
+// Calls in words.
 use super::words::InWords;
-use super::{INPUT_LIMIT, input};
 use handin::call::Call;
 use std::alloc::Global;
 use std::test::Fail;
-
-#[test]
-fn input_ends_at_the_limit(rt: HostRuntime) -> Result<(), Fail> {
-    let long = vec![in rt.alloc(); 0u8; INPUT_LIMIT as usize + 1]?;
-    let read = input(rt.alloc(), long.as_slice())?;
-    assert_eq!(rt; read.len(), 40_960);
-    Ok(())
-}
 
 // Checks how a call is printed.
 fn check_words(heap: Global, call: Call, words: &str) -> Result<(), Fail> {

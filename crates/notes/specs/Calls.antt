@@ -4,23 +4,22 @@ use Rattle.refusal.specs.declared.Refusal.{Refusal}
 use Rattle.refusal.specs.Rows.{row}
 use Rattle.record.specs.Fields.{flat}
 use Rattle.record.specs.Frame.{Framed}
-use Rattle.notes.specs.declared.call.Call.{Call}
-use Rattle.notes.specs.declared.call.Call.TheVariants.{Enter}
+use Rattle.spelling.specs.declared.entering.Entering.{Entering}
 
--- the calls by the kinds of their records
-abbrev pub call_kind : Call → ℕ
-call_kind (Enter form x y) = 1
+-- the kind of a record that enters a message
+abbrev pub call_kind : ℕ
+call_kind = 1
 
 -- the fields of a call's record
-abbrev pub call_fields : Call → List ℕ
-call_fields (Enter form x y) = form ∷ x ∷ y ∷ []
+abbrev pub call_fields : Entering → List ℕ
+call_fields c = c.form ∷ c.x ∷ c.y ∷ []
 
 -- the record is the call's
-pub record Of (r : Framed) (c : Call) : Type 0 where
-  pub kind : r.kind ≡ call_kind c
+pub record Of (r : Framed) (c : Entering) : Type 0 where
+  pub kind : r.kind ≡ call_kind
   pub body : r.body ≡ flat (call_fields c)
 
 -- the call of the record; row 2 where it is no call's
-abbrev pub StandsFor : Framed → Result Call Refusal → Type 0
+abbrev pub StandsFor : Framed → Result Entering Refusal → Type 0
 StandsFor r (Ok c) = Of r c
-StandsFor r (Err q) = (row q ≡ 2) × ((c : Call) → Of r c → ⊥)
+StandsFor r (Err q) = (row q ≡ 2) × ((c : Entering) → Of r c → ⊥)

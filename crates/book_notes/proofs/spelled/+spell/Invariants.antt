@@ -1,5 +1,0 @@
-use Rattle.book_notes.proofs.spelled.+spell.Given as goal
-
--- parts have smaller numbers
-abbrev pub decreases-spell : goal.decreases-spell
-decreases-spell g l = l.number

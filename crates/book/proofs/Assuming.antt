@@ -39,6 +39,7 @@ module _ (e : Entries) (ss : List (List (Event ℕ))) (is : e.strands ≡ map (t
 
   -- the rows of the arguments are the same for strands by number and for traces
   arguments : arguments_reply ms ss kind value origin ≡ arguments_reply ms e.strands kind value origin
+  unfolding arguments_reply
   arguments =
       ap
       (λ (b : Bool). first_row {X = ℕ}
@@ -51,15 +52,18 @@ module _ (e : Entries) (ss : List (List (Event ℕ))) (is : e.strands ≡ map (t
 
   module _ (q : Refusal) (refused : AssumptionNamed ms ss kind value origin (Err q)) where
     pub assume_refused : assume_reply e kind value origin ≡ Err (row q)
+    unfolding arguments_reply
     assume_refused = refused_before 0 (length e.assumptions) further (assumption_rules ms e.strands kind value origin) (row q) (sym arguments ∙ refused)
 
     pub release_refused : release_reply e kind value origin ≡ Err (row q)
+    unfolding arguments_reply
     release_refused = refused_before 0 (released e kind value origin) taken (assumption_rules ms e.strands kind value origin) (row q) (sym arguments ∙ refused)
 
   module _
       (once : Distinct ms) (xs after : List (Assumption ℕ)) (within : ValuesWithin ms xs) (held : e.assumptions ≡ map (supposed ms) xs)
       (a : Assumption ℕ) (named : AssumptionNamed ms ss kind value origin (Ok a)) (r : Result ℕ Refusal) where
     passed : (more : List Rule) (n : ℕ) → first_row (assumption_rules ms e.strands kind value origin ++ more) n ≡ first_row more n
+    unfolding arguments_reply
     passed more n = passed_before 0 n more (assumption_rules ms e.strands kind value origin) (sym arguments ∙ named.0)
 
     alike : place same_assumption (supposed ms a) (map (supposed ms) xs) ≡ place (same_by eqb) a xs

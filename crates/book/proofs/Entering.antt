@@ -1,12 +1,13 @@
 -- A table that grows leaves strands and assumptions as they are.
 use Rattle.std.proofs.Common.{◌≡◌, ℕ, suc, ◌<◌, ◌≤◌, Bool, true, false, cond, List, [], ◌∷◌, ◌++◌, map, length, Ok, Err, Result, refl, ap, ap₂, arith}
 use Rattle.std.proofs.lemmas.List.{length_push}
+use Rattle.std.proofs.lemmas.List.Elements.{All-head, All-tail}
 use Rattle.refusal.specs.Rows.{unless_refused}
 use Rattle.message.specs.Enter.{after_enter, enter_reply, named, stands}
 use Rattle.message.specs.Meaning.{at}
 use Rattle.message.specs.Message.{Message}
 use Rattle.strand.specs.declared.event.Event.{Event}
-use Rattle.strand.specs.Trace.{Trace, trace}
+use Rattle.strand.specs.Trace.{Trace, Within, trace}
 use Rattle.strand.proofs.Traces.{trace_grown}
 use Rattle.assumption.specs.declared.assumption.Assumption.{Assumption}
 use Rattle.assumption.specs.declared.assumption.Assumption.TheVariants.{NonOriginating, UniquelyOriginating, Authenticated, Confidential}
@@ -17,7 +18,9 @@ module _ (ms after : List Message) (kept : (k : ℕ) → k < length ms → at af
   pub traces_grown : (ss : List (List (Event ℕ))) → EventsWithin ms ss → map (trace after) ss ≡ map (trace ms) ss
   traces_grown [] within = refl
   traces_grown (t ∷ ts) within =
-      ap₂ (λ (u : Trace) (us : List Trace). u ∷ us) (trace_grown ms after t (within 0) kept) (traces_grown ts (λ s k h. within (suc s) k h))
+      ap₂ (λ (u : Trace) (us : List Trace). u ∷ us)
+      (trace_grown ms after t (All-head (Within ms) t ts within) kept)
+      (traces_grown ts (All-tail (Within ms) t ts within))
 
   supposed_grown : (a : Assumption ℕ) → value_reach a ≤ length ms → supposed after a ≡ supposed ms a
   supposed_grown (NonOriginating v) h = ap {B = Assumption Message} NonOriginating (kept v (omega arith))

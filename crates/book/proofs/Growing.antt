@@ -1,7 +1,7 @@
 -- What can stand still can when more messages stand, or more nodes are there.
 use Rattle.std.proofs.Common.{List}
-use Rattle.std.specs.List.{ContainsAt as Has, AllByRecursion}
-use Rattle.std.proofs.ByRecursion.{All-weaker}
+use Rattle.std.specs.List.{All, Contains}
+use Rattle.std.proofs.lemmas.List.Elements.{All-weaker}
 use Rattle.message.specs.Message.{Message}
 use Rattle.strand.specs.declared.event.Event.{Event}
 use Rattle.strand.specs.Node.{Node}
@@ -13,7 +13,7 @@ use Rattle.book.specs.Orderly.{BasicValue, IsNode, StandingArrow, StandingAssump
 
 -- each message that stands still does
 abbrev pub KeepsMessages : List Message → List Message → Type 0
-KeepsMessages ms ms' = (m : Message) → Has ms m → Has ms' m
+KeepsMessages ms ms' = (m : Message) → Contains ms m → Contains ms' m
 
 -- each node that is there still is
 abbrev pub KeepsNodes : List Trace → List Trace → Type 0
@@ -26,7 +26,7 @@ module _ (ms ms' : List Message) (more : KeepsMessages ms ms') where
   trace_kept : (t : Trace) → StandingTrace ms t → StandingTrace ms' t
   trace_kept t h = record { few = h.few; events = All-weaker (StandingEvent ms) (StandingEvent ms') event_kept t h.events }
 
-  pub traces_kept : (ss : List Trace) → AllByRecursion (StandingTrace ms) ss → AllByRecursion (StandingTrace ms') ss
+  pub traces_kept : (ss : List Trace) → All (StandingTrace ms) ss → All (StandingTrace ms') ss
   traces_kept ss h = All-weaker (StandingTrace ms) (StandingTrace ms') trace_kept ss h
 
   value_kept : (v : Message) → BasicValue ms v → BasicValue ms' v

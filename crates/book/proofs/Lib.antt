@@ -16,3 +16,8 @@ pub mod StandingStrands
 pub mod StandingAssumptions
 pub mod Standing
 pub mod Records
+pub mod Drawn
+pub mod Assumed
+pub mod Entered
+pub mod Opened
+pub mod Added

@@ -1,20 +1,15 @@
 -- A list in which each entry can stand and none stands twice stays one when an entry is put behind it or taken out.
-use Rattle.std.proofs.Common.{◌≡◌, ℕ, zero, suc, ◌<◌, ◌≤◌, Bool, true, false, leb, ◌⊎◌, ◌↔◌, List, [], ◌∷◌, ◌++◌, length, get_or, take, drop, is_some, Some, sym, refl, ap, ◌∙◌, inl, inr, arith}
+use Rattle.std.proofs.Common.{◌≡◌, ℕ, zero, suc, ◌<◌, ◌≤◌, Bool, true, false, leb, ◌⊎◌, ◌↔◌, List, [], ◌∷◌, ◌++◌, length, take, drop, is_some, Some, sym, refl, ap, ◌∙◌, inl, inr, arith}
 use Rattle.std.specs.List.{remove, slice_get}
 use Rattle.std.proofs.lemmas.List.Edits.{length-remove}
-use Rattle.std.proofs.ByRecursion.{All-append, All-drop, All-push, All-take, All-weaker}
+use Rattle.std.proofs.lemmas.List.Elements.{All-append, All-drop, All-push, All-take, All-weaker}
 use Rattle.std.proofs.lemmas.List.{length_push}
+use Rattle.std.proofs.lemmas.Option.{get_or_from_slice_get, slice_get_within}
 use Rattle.std.proofs.lemmas.Bool.{false≢true, leb-false, ltb-false, ltb-true}
 use Rattle.listing.specs.Place.{place}
 use Rattle.listing.specs.Listing.{stands}
 use Rattle.listing.proofs.Places.{place_before}
 use Rattle.book.specs.Orderly.{Listed, NoneTwice}
-
--- what is found at a place is there
-there : {X : Type 0} (xs : List X) (k : ℕ) (x : X) → slice_get xs k ≡ Some x → (k < length xs) × (get_or xs k x ≡ x)
-there [] k x e = absurd (false≢true (ap is_some e))
-there (y ∷ ys) zero x e = (omega arith, cc)
-there (y ∷ ys) (suc k) x e = let (l, is) = there ys k x e in (omega arith, is)
 
 -- what is found in a list with one entry more was found before, or is that entry
 pushed : {X : Type 0} (xs : List X) (x : X) (k : ℕ) (y : X) → slice_get (xs ++ x ∷ []) k ≡ Some y → (slice_get xs k ≡ Some y) ⊎ ((k ≡ length xs) × (x ≡ y))
@@ -66,7 +61,8 @@ module _ {X : Type 0} (same : X → X → Bool) (decides : (a b : X) → (same a
   -- an entry that does not stand is found nowhere
   absent : stands same x xs ≡ false → (k : ℕ) → slice_get xs k ≡ Some x → ⊥
   absent new k e =
-      let (l, is) = there xs k x e in
+      let l = slice_get_within xs k x e in
+      let is = get_or_from_slice_get xs k x x e in
       let before = place_before same x x xs k l ((decides _ _).1 is) in omega (arith, before, l, ltb-false _ _ new)
 
   pub listed_push : P x → stands same x xs ≡ false → leb limit (length xs) ≡ false → Listed limit P (xs ++ x ∷ [])

@@ -2,7 +2,7 @@
 use Rattle.std.proofs.Common.{◌≡◌, ℕ, ◌<◌, ◌≤◌, Bool, true, false, cond, ◌↔◌, List, [], ◌∷◌, ◌++◌, length, get_or, Ok, Err, Result, sym, refl, ap, ◌∙◌, subst, arith, length-append}
 use Rattle.std.proofs.lemmas.Bool.{ltb-true, ltb-false}
 use Rattle.refusal.specs.Rows.{Rule, first_row, unless_refused}
-use Rattle.listing.proofs.Places.{place_finds}
+use Rattle.std.proofs.lemmas.List.Sums.{passes_at_first}
 use Rattle.listing.proofs.Places.{place_keep, place_le, place_push}
 use Rattle.message.specs.declared.stored.Symbol.TheVariants.{AsymmetricKey}
 use Rattle.message.specs.Message.{Message, symbol}
@@ -95,8 +95,8 @@ given_has ns replies k m g =
 
 one_message : (ms : List Message) (m n : Message) (k : ℕ) → Has ms m k → Has ms n k → m ≡ n
 one_message ms m n k h i =
-    let p = place_finds same m (symbol AsymmetricKey 0) ms (rw h.at h.below) in
-    let q = place_finds same n (symbol AsymmetricKey 0) ms (rw i.at i.below) in
+    let p = passes_at_first (λ n. same n m) ms (symbol AsymmetricKey 0) (rw h.at h.below) in
+    let q = passes_at_first (λ m. same m n) ms (symbol AsymmetricKey 0) (rw i.at i.below) in
     sym (same_true _ _ p) ∙ (ap (λ (j : ℕ). get_or ms j (symbol AsymmetricKey 0)) (h.at ∙ sym i.at) ∙ same_true _ _ q)
 
 pub numbers : (ns : List Note) → Replies none ns → (k l : ℕ) (m n : Message) → Given ns k m → Given ns l n → (k ≡ l) ↔ (m ≡ n)

@@ -1,12 +1,12 @@
 -- What stands after a call, by its rows: it is new only where no row fits.
 use Rattle.std.proofs.Common.{◌≡◌, Bool, true, false, cond, not, ◌&&◌, List, [], ◌∷◌, Err, sym, refl, ap, ◌∙◌}
-use Rattle.std.specs.List.{AllByRecursion}
 use Rattle.std.proofs.lemmas.Bool.{not-false}
 use Rattle.refusal.specs.Rows.{Rule, first_row, unless_refused}
 
 -- none of the rows fits
 abbrev pub NoneFits : List Rule → Type 0
-NoneFits rules = AllByRecursion (λ (r : Rule). r.1 ≡ false) rules
+NoneFits [] = Unit {0}
+NoneFits (r ∷ rules) = (r.1 ≡ false) × NoneFits rules
 
 -- what holds of the old, and of the new where no row fits, holds after the call
 pub either_way : {X Y : Type 0} (P : Y → Type 0) (rules : List Rule) (answer : X) (new old : Y) → (NoneFits rules → P new) → P old →

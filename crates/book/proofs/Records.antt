@@ -10,7 +10,7 @@ use Rattle.book.specs.Entries.{Entries, none}
 use Rattle.book.specs.Calls.{Call, Defined, Reply, after}
 use Rattle.book.specs.Notes.{Note, note}
 use Rattle.book.specs.Sound.{Sound}
-use Rattle.book.specs.Held.{Answered, Begins, Calls, Recorded, Step, entries, no_call, then_call}
+use Rattle.book.specs.Held.{Answered, answered_by, Begins, Calls, Recorded, Step, entries, no_call, then_call}
 use Rattle.book.proofs.Histories.{Replies, after_append, replies_none, replies_push}
 use Rattle.book.proofs.Numbers.{numbers}
 use Rattle.book.proofs.Standing.{orderly}
@@ -32,7 +32,7 @@ recorded_push b b' c r ns s h =
     }
 
 pub answered : {b b' : Book} {c : Call} {r : Reply c} → Step b c r b' → Answered b c r b'
-answered {b} {b'} {c} {r} s = record { step = s; recorded = λ ns h. recorded_push b b' c r ns s h }
+answered {b} {b'} {c} {r} s = answered_by s (λ ns h. recorded_push b b' c r ns s h)
 
 chained : (a b : Book) (ns : List Note) → Recorded [] a → Calls a ns b → Recorded ns b
 chained a b ns h no_call = h

@@ -1,6 +1,7 @@
 -- Whatever calls are made, what stands is orderly.
 use Rattle.std.proofs.Common.{ℕ, ◌≤◌, List, [], ◌∷◌, length, arith}
-use Rattle.std.specs.List.{ContainsAt as Has, AllByRecursion}
+use Rattle.std.specs.List.{All, Contains}
+use Rattle.std.proofs.lemmas.List.Elements.{All-nil}
 use Rattle.std.proofs.lemmas.Bool.{not-false, or_parts}
 use Rattle.message.specs.Message.{Message}
 use Rattle.message.specs.Enter.{enter_rules, named, with_message}
@@ -21,7 +22,7 @@ use Rattle.book.specs.Release.{after_release, release_rules}
 use Rattle.book.specs.Strike.{after_strike, strike_rules}
 use Rattle.book.specs.Calls.{Call, Enter, Open, Add, Draw, Strike, Assume, Release, after}
 use Rattle.book.specs.Notes.{after_all, standing}
-use Rattle.book.specs.Orderly.{Listed, Orderly, StandingArrow, StandingAssumption, StandingTrace}
+use Rattle.book.specs.Orderly.{Listed, Orderly, StandingArrow, StandingAssumption, StandingParts, StandingTrace}
 use Rattle.book.proofs.Growing.{KeepsNodes, arrow_kept, assumption_kept, traces_kept}
 use Rattle.book.proofs.Listing.{listed_kept, listed_push, listed_without}
 use Rattle.book.proofs.Passing.{either_way}
@@ -39,16 +40,16 @@ orderly_none =
         small = λ k h. absurd (omega arith);
         sorted = λ k h. absurd (omega arith);
       };
-      parts = tt;
+      parts = All-nil (StandingParts []);
       strands = omega arith;
-      traces = tt;
-      arrows = record { few = omega arith; each = tt; once = λ i j x e f. cc };
-      assumptions = record { few = omega arith; each = tt; once = λ i j x e f. cc };
+      traces = All-nil (StandingTrace []);
+      arrows = record { few = omega arith; each = All-nil (StandingArrow []); once = λ i j x e f. cc };
+      assumptions = record { few = omega arith; each = All-nil (StandingAssumption [] []); once = λ i j x e f. cc };
     }
 
 module _ (e : Entries) (o : Orderly e) where
   -- other strands with every node that was there
-  strands_orderly : (ss : List Trace) → KeepsNodes e.strands ss → length ss ≤ strand_limit → AllByRecursion (StandingTrace e.messages) ss →
+  strands_orderly : (ss : List Trace) → KeepsNodes e.strands ss → length ss ≤ strand_limit → All (StandingTrace e.messages) ss →
       Orderly (with_strands e ss)
   strands_orderly ss nodes few traces =
       record {
@@ -85,7 +86,7 @@ module _ (e : Entries) (o : Orderly e) where
       new : List Message
       new = with_message e.messages (named e.messages form x y)
 
-      kept : (m : Message) → Has e.messages m → Has new m
+      kept : (m : Message) → Contains e.messages m → Contains new m
       kept = entered_kept e.messages form x y
 
   open_orderly : Orderly (after_open e)

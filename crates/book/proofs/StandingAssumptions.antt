@@ -1,6 +1,6 @@
 -- An assumption that no row refuses can stand.
 use Rattle.std.proofs.Common.{◌≡◌, ℕ, true, false, not, ◌&&◌, eqb, List, arith}
-use Rattle.std.proofs.ByRecursion.{has_get_or}
+use Rattle.std.proofs.lemmas.List.Elements.{Contains-get_or}
 use Rattle.std.proofs.lemmas.Bool.{and_parts, cond_both, eq-eqb, eqb-false, leb-true, ltb-true, not-false, or_left, or_parts, or_right}
 use Rattle.message.specs.declared.stored.Symbol.TheVariants.{AsymmetricKey}
 use Rattle.message.specs.Message.{Message, symbol}
@@ -23,7 +23,7 @@ module _ (ms : List Message) (ss : List Trace) (kind value : ℕ) (origin : Node
   value_stands : about_message kind ≡ true → BasicValue ms (at ms value)
   value_stands t =
       record {
-        stands = has_get_or ms value (symbol AsymmetricKey 0) (ltb-true _ _ (asked _ _ subject.0 t));
+        stands = Contains-get_or ms value (symbol AsymmetricKey 0) (ltb-true _ _ (asked _ _ subject.0 t));
         basic = asked _ _ basic t;
       }
 

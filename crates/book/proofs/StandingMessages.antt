@@ -1,7 +1,7 @@
 -- `enter` leaves messages that can stand together.
 use Rattle.std.proofs.Common.{◌≡◌, ℕ, ◌<◌, ◌≤◌, true, false, not, ◌&&◌, eqb, ◌⊎◌, List, [], ◌∷◌, ◌++◌, length, refl, ap, inl, inr, arith}
-use Rattle.std.specs.List.{ContainsAt as Has}
-use Rattle.std.proofs.ByRecursion.{has_append_left}
+use Rattle.std.specs.List.{Contains}
+use Rattle.std.proofs.lemmas.List.Elements.{Contains-append_left}
 use Rattle.std.proofs.lemmas.List.{get_or_past, length_push}
 use Rattle.std.proofs.lemmas.Bool.{and_from, and_parts, cases_lt, cond_both, eq-eqb, eqb-false, leb-false, leb-true, ltb-false, not-false, or_parts}
 use Rattle.listing.proofs.Places.{place_before}
@@ -95,4 +95,4 @@ module _ (ms : List Message) (form x y : ℕ) where
           }
 
   pub entered_kept : KeepsMessages ms (with_message ms m)
-  entered_kept n h = cond_both (stands ms m) _ _ (λ (ns : List Message). Has ns n) (λ old. h) (λ new. has_append_left ms (m ∷ []) n h)
+  entered_kept n h = cond_both (stands ms m) _ _ (λ (ns : List Message). Contains ns n) (λ old. h) (λ new. Contains-append_left ms (m ∷ []) n h)

@@ -1,7 +1,7 @@
 -- `enter` puts messages together of messages that stand.
 use Rattle.std.proofs.Common.{◌≡◌, ℕ, ◌≤◌, true, false, eqb, List, [], ◌∷◌, ◌++◌, arith}
-use Rattle.std.specs.List.{ContainsAt as Has, AllByRecursion}
-use Rattle.std.proofs.ByRecursion.{all-has, All-push, All-weaker, has_append_left, has_get_or}
+use Rattle.std.specs.List.{All, Contains}
+use Rattle.std.proofs.lemmas.List.Elements.{All-contains, All-push, All-weaker, Contains-append_left, Contains-get_or}
 use Rattle.std.proofs.lemmas.Bool.{and_parts, cond_both, eqb-false, eqb-true, le-leb, leb-true, ltb-true, not-false, or_parts}
 use Rattle.message.specs.declared.stored.Symbol.TheVariants.{AsymmetricKey, SymmetricKey, Datum, Tag}
 use Rattle.message.specs.Message.{Message, compound, inverse, inverse_key, symbol}
@@ -16,7 +16,7 @@ parts_kept ms ms' more (symbol s n) h = tt
 parts_kept ms ms' more (inverse_key n) h = more _ h
 parts_kept ms ms' more (compound o x y) (first, second) = (more x first, more y second)
 
-inverse_parts : (ms : List Message) (m : Message) → Has ms m → StandingParts ms m → StandingParts ms (inverse m)
+inverse_parts : (ms : List Message) (m : Message) → Contains ms m → StandingParts ms m → StandingParts ms (inverse m)
 inverse_parts ms (symbol AsymmetricKey n) there h = there
 inverse_parts ms (symbol SymmetricKey n) there h = tt
 inverse_parts ms (symbol Datum n) there h = tt
@@ -25,13 +25,13 @@ inverse_parts ms (inverse_key n) there h = tt
 inverse_parts ms (compound o x y) there h = h
 
 module _ (ms : List Message) (form x y : ℕ) where
-  module _ (each : AllByRecursion (StandingParts ms) ms) (listed : unlisted form y ≡ false) (present : missing ms form x y ≡ false) where
-    first : 5 ≤ form → Has ms (at ms x)
-    first l = has_get_or ms x (symbol AsymmetricKey 0) (ltb-true _ _ (asked _ _ (or_parts _ _ present).0 (le-leb 5 form l)))
+  module _ (each : All (StandingParts ms) ms) (listed : unlisted form y ≡ false) (present : missing ms form x y ≡ false) where
+    first : 5 ≤ form → Contains ms (at ms x)
+    first l = Contains-get_or ms x (symbol AsymmetricKey 0) (ltb-true _ _ (asked _ _ (or_parts _ _ present).0 (le-leb 5 form l)))
 
-    both : 6 ≤ form → Has ms (at ms x) × Has ms (at ms y)
+    both : 6 ≤ form → Contains ms (at ms x) × Contains ms (at ms y)
     both l =
-        (first (omega (arith, l)), has_get_or ms y (symbol AsymmetricKey 0) (ltb-true _ _ (asked _ _ (or_parts _ _ present).1 (le-leb 6 form l))))
+        (first (omega (arith, l)), Contains-get_or ms y (symbol AsymmetricKey 0) (ltb-true _ _ (asked _ _ (or_parts _ _ present).1 (le-leb 6 form l))))
 
     -- a form that is none of the first five is that of an operation
     operation : (eqb form 1 ≡ false) × (eqb form 2 ≡ false) × (eqb form 3 ≡ false) × (eqb form 4 ≡ false) × (eqb form 5 ≡ false) → 6 ≤ form
@@ -41,8 +41,8 @@ module _ (ms : List Message) (form x y : ℕ) where
 
     inverted : eqb form 5 ≡ true → StandingParts ms (inverse (at ms x))
     inverted t =
-        let there : Has ms (at ms x) = first (let is = eqb-true form 5 t in omega (arith, is)) in
-        inverse_parts ms (at ms x) there (all-has (StandingParts ms) ms (at ms x) each there)
+        let there : Contains ms (at ms x) = first (let is = eqb-true form 5 t in omega (arith, is)) in
+        inverse_parts ms (at ms x) there (All-contains (StandingParts ms) ms (at ms x) each there)
 
     named_parts : StandingParts ms (named ms form x y)
     named_parts =
@@ -57,13 +57,13 @@ module _ (ms : List Message) (form x y : ℕ) where
   abbrev m : Message
   m = named ms form x y
 
-  pub entered_parts : AllByRecursion (StandingParts ms) ms → NoneFits (enter_rules ms form x y) → AllByRecursion (StandingParts (with_message ms m)) (with_message ms m)
-  entered_parts each (listed, (present, rest)) = cond_both (stands ms m) _ _ (λ (ns : List Message). AllByRecursion (StandingParts ns) ns) (λ old. each) new
+  pub entered_parts : All (StandingParts ms) ms → NoneFits (enter_rules ms form x y) → All (StandingParts (with_message ms m)) (with_message ms m)
+  entered_parts each (listed, (present, rest)) = cond_both (stands ms m) _ _ (λ (ns : List Message). All (StandingParts ns) ns) (λ old. each) new
     where
       kept : (n : Message) → StandingParts ms n → StandingParts (ms ++ m ∷ []) n
-      kept = parts_kept ms (ms ++ m ∷ []) (has_append_left ms (m ∷ []))
+      kept = parts_kept ms (ms ++ m ∷ []) (Contains-append_left ms (m ∷ []))
 
-      new : stands ms m ≡ false → AllByRecursion (StandingParts (ms ++ m ∷ [])) (ms ++ m ∷ [])
+      new : stands ms m ≡ false → All (StandingParts (ms ++ m ∷ [])) (ms ++ m ∷ [])
       new t =
           All-push (StandingParts (ms ++ m ∷ [])) ms m
           (All-weaker (StandingParts ms) (StandingParts (ms ++ m ∷ [])) kept ms each)

@@ -1,7 +1,7 @@
 -- `open` and `add` leave strands that can stand, and every node that was there.
 use Rattle.std.proofs.Common.{◌≡◌, ℕ, zero, suc, ◌<◌, ◌≤◌, true, false, ◌⊎◌, List, [], ◌∷◌, ◌++◌, length, set, is_some, refl, ap, ◌∙◌, subst, inl, inr, arith}
-use Rattle.std.specs.List.{AllByRecursion, slice_get}
-use Rattle.std.proofs.ByRecursion.{All-get_or, All-push, All-set, has_get_or}
+use Rattle.std.specs.List.{All, slice_get}
+use Rattle.std.proofs.lemmas.List.Elements.{All-get_or, All-nil, All-push, All-set, Contains-get_or}
 use Rattle.std.proofs.lemmas.List.{get_or-set_other, get_or-set_same, length_push, length-set}
 use Rattle.std.proofs.lemmas.Bool.{and_from, cases_eq, cond_both, eqb-false, false≢true, le-leb, leb-false, ltb-false, ltb-true, not-false, or_parts}
 use Rattle.message.specs.declared.stored.Symbol.TheVariants.{AsymmetricKey}
@@ -63,7 +63,7 @@ module _ (e : Entries) (strand sign way message : ℕ) where
     pub added_there : strand < length e.strands
     added_there = (missing passed.1.0).0
 
-    pub added_stands : AllByRecursion (StandingTrace e.messages) e.strands → AllByRecursion (StandingTrace e.messages) (set e.strands strand after)
+    pub added_stands : All (StandingTrace e.messages) e.strands → All (StandingTrace e.messages) (set e.strands strand after)
     added_stands each = All-set (StandingTrace e.messages) e.strands strand after new each
       where
         old : StandingTrace e.messages (strand_at e.strands strand)
@@ -72,7 +72,7 @@ module _ (e : Entries) (strand sign way message : ℕ) where
         event : StandingEvent e.messages (named_event e sign way message)
         event =
             let (s, m, w) = missing passed.1.0 in
-            record { message = has_get_or e.messages message (symbol AsymmetricKey 0) m; way = standing_way w }
+            record { message = Contains-get_or e.messages message (symbol AsymmetricKey 0) m; way = standing_way w }
 
         new : StandingTrace e.messages after
         new =
@@ -89,5 +89,5 @@ module _ (e : Entries) where
   pub opened_few : NoneFits (open_rules e) → length (e.strands ++ [] ∷ []) ≤ strand_limit
   opened_few (room, done) = let free = leb-false 64 (length e.strands) room in let long = length_push e.strands [] in omega (arith, free, long)
 
-  pub opened_stands : AllByRecursion (StandingTrace e.messages) e.strands → AllByRecursion (StandingTrace e.messages) (e.strands ++ [] ∷ [])
-  opened_stands each = All-push (StandingTrace e.messages) e.strands [] each (record { few = omega arith; events = tt })
+  pub opened_stands : All (StandingTrace e.messages) e.strands → All (StandingTrace e.messages) (e.strands ++ [] ∷ [])
+  opened_stands each = All-push (StandingTrace e.messages) e.strands [] each (record { few = omega arith; events = All-nil (StandingEvent e.messages) })

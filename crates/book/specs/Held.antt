@@ -45,10 +45,11 @@ pub data Calls : Book → List Note → Book → Type 0 where
   no_call : {b : Book} → Calls b [] b
   then_call : {a b b' : Book} {ns : List Note} {c : Call} {r : Reply c} → Calls a ns b → Step b c r b' → Calls a (ns ++ note c r ∷ []) b'
 
--- what a call ensures: its step, and that every history that it ends is recorded
-pub record Answered (b : Book) (c : Call) (r : Reply c) (b' : Book) : Type 0 where
-  pub step : Step b c r b'
-  pub recorded : (ns : List Note) → Recorded ns b → Recorded (ns ++ note c r ∷ []) b'
+-- what a call ensures: its step, and that every history that it ends is recorded (data and no record, so that the check takes
+-- a lemma for the whole, and does not prove it part by part)
+pub data Answered : (b : Book) (c : Call) (r : Reply c) (b' : Book) → Type 0 where
+  answered_by : {b b' : Book} {c : Call} {r : Reply c} → Step b c r b' →
+      ((ns : List Note) → Recorded ns b → Recorded (ns ++ note c r ∷ []) b') → Answered b c r b'
 
 -- what holds of a new book: every history that it begins is recorded
 pub record Begins (b : Book) : Type 0 where

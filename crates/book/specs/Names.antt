@@ -1,8 +1,9 @@
 -- What the arguments of the calls name, as the book's private functions hand it on. No public contract rests on this file.
-use Rattle.std.specs.Prelude.{◌≡◌, ℕ, ◌<◌, ◌≤◌, true, false, ◌⊎◌, List, length, Some, None, Ok, Err, Option, Result, ◌≢◌}
+use Rattle.std.specs.Prelude.{◌≡◌, ℕ, ◌<◌, ◌≤◌, true, false, ◌⊎◌, List, length, is_some, Some, None, Ok, Err, Option, Result, ◌≢◌}
 use Rattle.refusal.specs.declared.Refusal.{Refusal}
 use Rattle.refusal.specs.Rows.{first_row, row}
-use Rattle.message.specs.Message.{Message}
+use Rattle.message.specs.Message.{Message, sort_of}
+use Rattle.message.specs.Meaning.{at}
 use Rattle.strand.specs.declared.event.Event.{Event}
 use Rattle.strand.specs.Event.{channel_limit, is_channel, sign_at, way_at}
 use Rattle.strand.specs.Node.{Node, is_node}
@@ -24,8 +25,14 @@ abbrev pub ArrowNamed : {X : Type 0} → List (List X) → Node → Node → Opt
 ArrowNamed ss from to (Some a) = (is_node ss from ≡ true) × (is_node ss to ≡ true) × (a ≡ arrow from to)
 ArrowNamed ss from to None = (is_node ss from ≡ false) ⊎ (is_node ss to ≡ false)
 
+-- the number of a message that is a basic value
+abbrev pub ValueNamed : List Message → ℕ → Result ℕ Refusal → Type 0
+ValueNamed ms value (Ok n) = (n ≡ value) × (value < length ms) × (is_some (sort_of (at ms value)) ≡ true)
+ValueNamed ms value (Err q) =
+    ((row q ≡ 4) × (length ms ≤ value)) ⊎ ((row q ≡ 5) × (value < length ms) × (is_some (sort_of (at ms value)) ≡ false))
+
 -- the row that refuses the arguments of an assumption, if one does
-abbrev pub arguments_reply : {X : Type 0} → List Message → List (List X) → ℕ → ℕ → Node → Result ℕ ℕ
+unfoldable pub arguments_reply : {X : Type 0} → List Message → List (List X) → ℕ → ℕ → Node → Result ℕ ℕ
 arguments_reply ms ss kind value origin = first_row (assumption_rules ms ss kind value origin) 0
 
 -- the assumption that the arguments name, or the row that refuses them

@@ -1,6 +1,5 @@
 -- What can stand in a book at all, whatever calls were made.
-use Rattle.std.specs.Prelude.{◌≡◌, ℕ, ◌≤◌, true, List, length, is_some, Some}
-use Rattle.std.specs.List.{ContainsAt as Has, AllByRecursion, slice_get}
+use Rattle.std.specs.Prelude.{◌≡◌, ℕ, ◌≤◌, true, List, length, is_some, slice_get, All, Contains, Some}
 use Rattle.message.specs.declared.stored.Symbol.TheVariants.{AsymmetricKey}
 use Rattle.message.specs.Message.{Message, compound, inverse_key, sort_of, symbol}
 use Rattle.message.specs.Table.{Numbered}
@@ -28,12 +27,12 @@ IsNode ss n = is_node ss n ≡ true
 -- the messages that this one is made of are among those that stand
 abbrev pub StandingParts : List Message → Message → Type 0
 StandingParts ms (symbol s n) = Unit {0}
-StandingParts ms (inverse_key n) = Has ms (symbol AsymmetricKey n)
-StandingParts ms (compound o x y) = Has ms x × Has ms y
+StandingParts ms (inverse_key n) = Contains ms (symbol AsymmetricKey n)
+StandingParts ms (compound o x y) = Contains ms x × Contains ms y
 
 -- the message is one of those that stand, and a basic value
 pub record BasicValue (ms : List Message) (m : Message) : Type 0 where
-  pub stands : Has ms m
+  pub stands : Contains ms m
   pub basic : is_some (sort_of m) ≡ true
 
 -- a way that can stand: plain, or one of the channels
@@ -43,13 +42,13 @@ StandingWay (Channel c) = IsChannel c
 
 -- an event that can stand: its message is one of those that stand
 pub record StandingEvent (ms : List Message) (e : Event Message) : Type 0 where
-  pub message : Has ms e.message
+  pub message : Contains ms e.message
   pub way : StandingWay e.way
 
 -- a strand that can stand
 pub record StandingTrace (ms : List Message) (t : Trace) : Type 0 where
   pub few : length t ≤ event_limit
-  pub events : AllByRecursion (StandingEvent ms) t
+  pub events : All (StandingEvent ms) t
 
 -- an arrow that can stand: both of its nodes are there
 pub record StandingArrow (ss : List Trace) (a : Arrow) : Type 0 where
@@ -70,15 +69,15 @@ NoneTwice {X} xs = (i j : ℕ) (x : X) → slice_get xs i ≡ Some x → slice_g
 -- a list of at most so many entries, each of which can stand, and none of which stands twice
 pub record Listed {X : Type 0} (limit : ℕ) (Standing : X → Type 0) (xs : List X) : Type 0 where
   pub few : length xs ≤ limit
-  pub each : AllByRecursion Standing xs
+  pub each : All Standing xs
   pub once : NoneTwice xs
 
 -- all that stands can stand, and there is no more of it than a book holds
 pub record Orderly (e : Entries) : Type 0 where
   -- at most as many messages as a table holds, none twice, none too large, and every encryption under a key of its sort
   pub messages : Numbered e.messages
-  pub parts : AllByRecursion (StandingParts e.messages) e.messages
+  pub parts : All (StandingParts e.messages) e.messages
   pub strands : length e.strands ≤ strand_limit
-  pub traces : AllByRecursion (StandingTrace e.messages) e.strands
+  pub traces : All (StandingTrace e.messages) e.strands
   pub arrows : Listed arrow_limit (StandingArrow e.strands) e.arrows
   pub assumptions : Listed assumption_limit (StandingAssumption e.messages e.strands) e.assumptions

@@ -6,4 +6,3 @@ mod calls;
 mod names;
 mod reading;
 mod start;
-mod steps;

@@ -26,14 +26,16 @@ impl Book {
         ensures count { result ≡ length (entries self.now).strands }
         ensures few { result ≤ strand_limit }
     {
-        self.count_strands()
+        self.strands.len()
     }
 
     // The trace of the strand with this number.
     pub fn trace(&self, strand: u16) -> Option<Trace<'_>>
         ensures { MatchOption result (length (entries self.now).strands ≤ strand) (Lends (entries self.now) strand) }
     {
-        self.lend(strand)
+        let events = self.strands.events(strand)?;
+        let messages = &self.messages;
+        Some(Trace { messages, events })
     }
 
     // The arrows, by position. None stands twice.
@@ -50,22 +52,5 @@ impl Book {
         ensures few { length result.now ≤ assumption_limit }
     {
         self.assumptions.as_slice()
-    }
-
-    fn count_strands(&self) -> usize
-        ensures count { result ≡ length (entries self.now).strands }
-        ensures few { result ≤ strand_limit }
-    {
-        self.strands.len()
-    }
-
-    fn lend(&self, strand: u16) -> Option<Trace<'_>>
-        ensures { MatchOption result (length (entries self.now).strands ≤ strand) (Lends (entries self.now) strand) }
-    {
-        let Some(events) = self.strands.events(strand) else {
-            return None;
-        };
-        let messages = &self.messages;
-        Some(Trace { messages, events })
     }
 }

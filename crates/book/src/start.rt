@@ -25,7 +25,8 @@ impl Book {
         Ok(Book::over(messages, strands, arrows, assumptions))
     }
 
-    // A book of these parts, which are empty.
+    // A book of these parts, which are empty. (Apart from `new`, for the proof that it begins is an answer in proofs/: so a
+    // `new` with other parts is refused here, at what this asks of them.)
     fn over(
         messages: Messages,
         strands: Strands,

@@ -32,29 +32,33 @@ def found(pattern, tests=False, flags=0):
             yield f"{path}:{line}: {shown[:110]}"
 
 
-FUNCTION = re.compile(
-    r"^[ ]*(?:pub(?:\(crate\))? )?fn (\w+)(?:<[^{(]*>)?\(((?:[^()]|\([^()]*\))*)\)([^{]*?)(?=\{ *\n|\n[ ]*\{|;|\n\n)"
-    r"((?:\n[ ]*(?:requires|ensures)\b[^\n]*)*)",
-    re.M,
-)
-CLAUSE = re.compile(r"^\s*(requires|ensures)\s+(\w+ )?\{(.*)\}\s*$", re.M)
+def closing(text, start, pair):
+    """The place behind the bracket that closes the one at `start`."""
+    depth = 0
+    for i in range(start, len(text)):
+        depth += (text[i] == pair[0]) - (text[i] == pair[1])
+        if depth == 0:
+            return i + 1
+    return len(text)
 
 
 def functions():
-    """Each function with its parameters (name: type) and its clauses."""
+    """Each function with its parameters (name and type) and its clauses (kind and text)."""
     for path, text in sources(False):
-        lines = text.split("\n")
-        for i, line in enumerate(lines):
-            m = re.match(r"\s*(?:pub(?:\(crate\))? )?fn (\w+)", line)
-            if not m:
-                continue
-            head, j = line, i
-            while not re.search(r"(\{|;)\s*$", lines[j]) or re.match(r"\s*(requires|ensures)", lines[j]):
-                j += 1
-                head += "\n" + lines[j]
-            params = re.findall(r"(\w+): ((?:&(?:'\w+ )?)?(?:mut )?[\w:<>'\[\]; ,]*?(?:\([^()]*\))?)(?=,\s|,?\s*\)|$)", head.split("ensures")[0].split("requires")[0].split("->")[0])
-            clauses = [(k, c.strip()) for k, _, c in CLAUSE.findall(head)]
-            yield f"{path}:{i + 1}", m.group(1), params, clauses
+        for m in re.finditer(r"^ *(?:pub(?:\(crate\))? )?fn (\w+)", text, re.M):
+            opened = text.index("(", m.end())
+            end = closing(text, opened, "()")
+            params = re.findall(r"(\w+): ([^,]+?(?:\([^()]*\))?)(?=,|$)", " ".join(text[opened + 1 : end - 1].split()))
+            clauses = []
+            while True:
+                found_next = re.compile(r"\{|;|\b(requires|ensures)\b\*?(?: \w+)? \{").search(text, end)
+                if not found_next or not found_next.group(1):
+                    break
+                opened = found_next.end() - 1
+                end = closing(text, opened, "{}")
+                clauses.append((found_next.group(1), " ".join(text[opened + 1 : end - 1].split())))
+            line = text.count("\n", 0, m.start()) + 1
+            yield f"{path}:{line}", m.group(1), params, clauses
 
 
 def point1():
@@ -79,7 +83,7 @@ def point1():
     # an end that stands for 'not found': a function from a list to an index that is tested against the length
     yield from found(r"if \w+ < self\.\w+\.len\(\) \{\s*Some", flags=re.S)
     # a number that is an enum's, or the other way, by a function of its own
-    yield from found(r"fn (?:listed|number)\([^)]*\)[^{\n]*")
+    yield from found(r"fn (?:listed|number)\((?:self|number: u16)\)[^{\n]*")
 
 
 def point2():
@@ -115,7 +119,8 @@ def point3():
 def point4():
     yield from found(r"fn (?:is_same|first_same)\b[^{\n]*")
     yield from found(r"\w+\.0 [!=]= \w+(?:\.0)?[^\n]*\.1 [!=]= [^\n]*")
-    yield from found(r"fn (?:listed|number|letter|words|answer|of|name)\([^\n]*")
+    yield from found(r"fn (?:listed|number|letter|words|of|name)\((?:self|number: u16|\w+: [A-Z]\w+)\)[^\n]*")
+    yield from found(r"fn answer\(\w+: Result[^\n]*")
     # parts of a text that are written by functions beside Display
     for path, text in sources(False):
         for m in re.finditer(r"fn (\w+)<W: fmt::Write>", text):

@@ -74,6 +74,6 @@ module _ (b b' : Book) (from to : Node) (first : is_node (strands_of b.strands) 
     not_struck seven absent = subst (λ (p : Result ℕ Refusal). Answered b (Strike from to) p b') (sym is) (removed (Err q) (seven, absent, same))
 
 -- what the checks of `draw` and `strike` take: also that no arrow then stands twice
-pub ruleset drawing = (draw_unjoined, drawn, not_drawn, once_appended)
+pub ruleset drawing = (draw_unjoined, drawn, not_drawn, once_appended, once_removed)
 
-pub ruleset striking = (strike_unjoined, struck, not_struck, once_removed)
+pub ruleset striking = (strike_unjoined, struck, not_struck, once_appended, once_removed)

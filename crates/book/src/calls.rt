@@ -1,5 +1,6 @@
 // The calls of a book. Each answers what is defined for what stands and its arguments, changes just what is defined, and
-// takes no memory; a refused call changes nothing.
+// takes no memory; a refused call changes nothing. Forms, signs, ways and kinds come as numbers, each beside the others: a
+// rule of the project, since a call with a number that is not listed is one too, and is refused by its row.
 ghost use Rattle.book.specs.Calls.{Add, Assume, Draw, Enter, Open, Release, Strike};
 ghost use Rattle.book.specs.Held.{Answered};
 

@@ -1,4 +1,5 @@
-// What the arguments of the calls name, or the row by which they are refused.
+// What the arguments of the calls, numbers as they come, name, or the row by which they are refused. A look-up answers an
+// `Option` that is taken by `let .. else` into row 4: a rule of the project.
 ghost use Rattle.std.specs.Prelude.{◌≡◌, ◌≢◌, ◌⊎◌, MatchResult};
 ghost use Rattle.refusal.specs.Rows.{row};
 ghost use Rattle.message.specs.Table.{messages_of};
@@ -45,9 +46,7 @@ impl Book {
         let Some(stored) = self.messages.get(value) else {
             return Err(Refusal::NotThere);
         };
-        let Some(_) = stored.sort() else {
-            return Err(Refusal::WrongSort);
-        };
+        stored.sort().ok_or(Refusal::WrongSort)?;
         Ok(value)
     }
 }

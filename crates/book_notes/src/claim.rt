@@ -6,7 +6,7 @@ use spelling::spelled::Spelled;
 use std::fmt;
 use strand::strand::Node;
 
-// What an assumption is about, by number.
+// What an assumption is about, by number. (No `Result`: neither is the failure of the other.)
 #[derive(Clone, Copy)]
 pub enum Subject {
     Message(u16),
@@ -86,7 +86,7 @@ impl fmt::Display for SpelledClaim<'_> {
     }
 }
 
-// The fields of a call that assumes or releases.
+// The fields of a call that assumes or releases, listed or not.
 #[derive(Clone, Copy)]
 pub struct Supposition {
     pub kind: u16,

@@ -63,6 +63,7 @@ fn run(rt: &HostRuntime) -> anyhow::Result<()> {
     Ok(())
 }
 
+// Each program has a `main`; what it does is `run`.
 fn main(rt: HostRuntime) -> anyhow::Result<()> {
     run(&rt)
 }

@@ -9,6 +9,7 @@ use record::Record;
 use refusal::Refusal;
 use strand::strand::Node;
 
+// A call with its arguments, numbers as the record gives them: one that is not listed is for the book to refuse by its row.
 #[derive(Clone, Copy)]
 pub enum Call {
     Enter {

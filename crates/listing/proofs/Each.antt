@@ -1,4 +1,4 @@
--- What holds at each place of a list, and one entry more or less.
+-- What holds at each place of a list, and one entry more.
 use Rattle.std.proofs.Common.{◌≡◌, ℕ, ◌+◌, ◌<◌, ◌≤◌, List, [], ◌∷◌, ◌++◌, length, get_or, sym, subst, ⊎_elim, arith}
 use Rattle.std.specs.List.{remove}
 use Rattle.std.proofs.lemmas.List.Edits.{get_or-remove_above, get_or-remove_below, length-remove}
@@ -17,17 +17,3 @@ each_push d P xs x each new k h = ⊎_elim before behind (cases_lt k (length xs)
     behind l =
         let here : length xs ≡ k = let n = length_push xs x in omega arith in
         subst (λ y. P y k) (sym (get_or_push xs x d k here)) (subst (P x) here new)
-
--- what holds of each entry still does when one is taken out
-pub each_removed : {X : Type 0} (d : X) (P : X → Type 0) (xs : List X) (i : ℕ) → i < length xs → ((k : ℕ) → k < length xs → P (get_or xs k d)) →
-    (k : ℕ) → k < length (remove xs i) → P (get_or (remove xs i) k d)
-each_removed d P xs i l each k h = ⊎_elim before behind (cases_lt k i)
-  where
-    long : length (remove xs i) + 1 ≡ length xs
-    long = length-remove xs i l
-
-    before : k < i → P (get_or (remove xs i) k d)
-    before b = subst P (sym (get_or-remove_below xs i d k b l)) (each k (omega (arith, long)))
-
-    behind : i ≤ k → P (get_or (remove xs i) k d)
-    behind b = subst P (sym (get_or-remove_above xs i d k b l)) (each (k + 1) (omega (arith, long)))

@@ -7,6 +7,6 @@ module _ {X : Type 0} {limit : ℕ} where
   abbrev pub entries_of : Listing X limit → List X
   entries_of l = vec_items l.entries
 
-  -- for how many entries there is memory
+  -- for how many entries there is memory (that a call leaves it as it was is a fact of two values, which no field can state)
   abbrev pub memory_of : Listing X limit → ℕ
   memory_of l = vec_capacity l.entries

@@ -20,7 +20,8 @@ impl Messages {
         Ok(Messages { entries })
     }
 
-    // The number of the message that the form and its operands name: the old one where an equal message stands.
+    // The number of the message that the form and its operands name: the old one where an equal message stands. All three
+    // are numbers, listed or not: a rule of the project.
     // The memory stays the table's first.
     pub fn enter(&mut self, form: u16, x: u16, y: u16) -> Result<u16, Refusal>
         ensures entered { Entered (messages_of self.old) form x y result (messages_of self.new) }
@@ -42,7 +43,7 @@ impl Messages {
         }
     }
 
-    // Puts a new message at the end, if there is room.
+    // Puts a new message at the end, if there is room. (It ensures what `admit` does, but only of a message that is new.)
     fn append(&mut self, entry: Entry) -> Result<u16, Refusal>
         requires fits { Fits (messages_of self.old) entry }
         requires new { (k : ℕ) → k < length (messages_of self.old) → at (messages_of self.old) k ≢ value (messages_of self.old) entry.stored }

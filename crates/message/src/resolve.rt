@@ -1,4 +1,5 @@
-// The arguments of `enter`: the message that they name, or the first row that fits them.
+// The arguments of `enter`, numbers as they come: the message that they name, or the first row that fits them. A look-up
+// answers an `Option` that is taken by `let .. else` into row 4: a rule of the project.
 ghost use Rattle.message.specs.Message.{form_number};
 ghost use Rattle.message.specs.Resolve.{Resolves};
 ghost use Rattle.message.specs.Table.{messages_of};
@@ -67,7 +68,8 @@ impl Messages {
         })
     }
 
-    // The message that a form and its operands name.
+    // The message that a form and its operands name. (The forms are a closed enum: closures would only name the three
+    // steps anew.)
     pub(crate) fn resolve(&self, form: u16, x: u16, y: u16) -> Result<Entry, Refusal>
         ensures { Resolves (messages_of self.now) form x y result }
     {

@@ -22,7 +22,7 @@ impl Stored {
 }
 
 impl Sort {
-    // The letter of the sort.
+    // The letter of the sort. (A method and no `From`: `char::from(sort)` would not say which character.)
     pub fn letter(self) -> char
         ensures { result ≡ sort_letter self }
     {

@@ -34,7 +34,8 @@ pub enum Form {
 }
 
 // A symbol has its own number; an inverse, which is always that of an asymmetric key's atom, has the atom's; the other
-// numbers are those of messages in the table.
+// numbers are those of messages in the table. (Numbers and no boxes: a table takes all its memory when it is made, a rule of
+// the project, and calls name messages by number.)
 #[derive(Clone, Copy, PartialEq, Eq, Debug)]
 pub enum Stored {
     Symbol(Symbol, u16),

@@ -16,6 +16,7 @@ mod tests;
 pub struct Record<'a> {
     // The byte of the input at which the record begins.
     pub place: usize,
+    // A number of the format; which kinds there are is each file's own affair.
     pub kind: u16,
     // The bytes after the record's head.
     pub body: &'a [u8],

@@ -34,7 +34,7 @@ pub enum Refusal {
 }
 
 impl Refusal {
-    // The refusal in words.
+    // The refusal in words. (A method beside `Display`, which writes them, since it lends them for good.)
     pub fn words(self) -> &'static str
         ensures { result.now ≡ in_words self }
     {

@@ -4,7 +4,7 @@ ghost use Rattle.strand.specs.Node.{Codes, InRange, code as code_of, event_limit
 
 use crate::strand::{EVENT_LIMIT, Node, STRAND_LIMIT};
 
-// Whether two nodes are one: their `==`, in the word of the specs.
+// Whether two nodes are one: their `==`, in the word of the specs, which no derive names.
 pub fn is_same(m: Node, n: Node) -> bool
     ensures { result ≡ same_node m n }
 {

@@ -46,7 +46,8 @@ impl From<Sign> for u16 {
 }
 
 impl Way {
-    // The way with this number: 0 is plain, the others are channels.
+    // The way with this number: 0 is plain, the others are channels. (An `Option` and no `TryFrom`: a way over 64 is not
+    // there, like any other look-up that finds nothing, a rule of the project.)
     pub fn listed(number: u16) -> Option<Way>
         ensures { MatchOption result (channel_limit < number) (λ w. (number ≤ channel_limit) × (way_number w ≡ number) × (w ≡ way_at number)) }
     {

@@ -30,7 +30,8 @@ impl Strands {
         Ok(number as u16)
     }
 
-    // Adds an event to a strand. Its index is how many the strand had.
+    // Adds an event to a strand. Its index is how many the strand had. (The look-up is taken by `let .. else` into row 4: a
+    // rule of the project.)
     #[tactic(auto, using(crate::proofs::Rows::added))]
     pub fn add(&mut self, strand: u16, event: Event) -> Result<u16, Refusal>
         ensures added { Added (strands_of self.old) strand event result (strands_of self.new) }

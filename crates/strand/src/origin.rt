@@ -13,7 +13,7 @@ use refusal::Refusal;
 
 impl<'a> Trace<'a> {
     // The index at which the message with this number originates, if it originates on this trace: the first event that
-    // carries it is a transmission.
+    // carries it is a transmission. (The look-up is taken by `let .. else` into row 4: a rule of the project.)
     pub fn origin(&self, value: u16) -> Result<Option<u16>, Refusal>
         ensures found { OriginOf (table_of self.now) (trace_of self.now) value result }
         ensures once { OriginatesOnce }
@@ -27,7 +27,8 @@ impl<'a> Trace<'a> {
         }
     }
 
-    // The index and the sign of the first event that carries the value.
+    // The index and the sign of the first event that carries the value. (A `for` and no `position`, which would look the event
+    // up again for its sign.)
     fn first_carrying(&self, value: u16) -> Option<(u16, Sign)>
         requires { value < length (table_of self.now) }
         ensures decided { MatchOption result

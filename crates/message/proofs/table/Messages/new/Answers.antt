@@ -1,5 +1,7 @@
+-- A table without entries is a new one.
+use Rattle.std.proofs.Common.{rules}
 use Rattle.message.proofs.Beginning.{begins}
 use Rattle.message.proofs.table.Messages.new.Goals as goal
 
 pub returns : goal.returns
-returns c = begins _ c.in_ok-entries.ensures
+returns c = begins _ (search rules)

@@ -6,10 +6,10 @@ pub const ASSUMPTION_LIMIT: usize = 256;
 
 #[derive(Clone, Copy, PartialEq, Eq, Debug)]
 pub enum Kind {
-    NonOriginating,
-    UniquelyOriginating,
-    Authenticated,
-    Confidential,
+    NonOriginating = 1,
+    UniquelyOriginating = 2,
+    Authenticated = 3,
+    Confidential = 4,
 }
 
 // What is assumed: that a basic value originates on no strand, or at this node and on no other strand; that no outsider

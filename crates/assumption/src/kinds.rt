@@ -28,12 +28,7 @@ impl From<Kind> for u16 {
     ghost from_gives = { λ kind number. number ≡ kind_number kind };
 
     fn from(kind: Kind) -> u16 {
-        match kind {
-            Kind::NonOriginating => 1,
-            Kind::UniquelyOriginating => 2,
-            Kind::Authenticated => 3,
-            Kind::Confidential => 4,
-        }
+        kind as u16
     }
 }
 

@@ -51,6 +51,13 @@ pub data Answered : (b : Book) (c : Call) (r : Reply c) (b' : Book) → Type 0 w
   answered_by : {b b' : Book} {c : Call} {r : Reply c} → Step b c r b' →
       ((ns : List Note) → Recorded ns b → Recorded (ns ++ note c r ∷ []) b') → Answered b c r b'
 
+-- its two parts
+pub step_of : {b b' : Book} {c : Call} {r : Reply c} → Answered b c r b' → Step b c r b'
+step_of (answered_by step recorded) = step
+
+pub recorded_of : {b b' : Book} {c : Call} {r : Reply c} → Answered b c r b' → (ns : List Note) → Recorded ns b → Recorded (ns ++ note c r ∷ []) b'
+recorded_of (answered_by step recorded) = recorded
+
 -- what holds of a new book: every history that it begins is recorded
 pub record Begins (b : Book) : Type 0 where
   pub empty : Recorded [] b

@@ -51,10 +51,10 @@ impl Book {
     pub fn strike(&mut self, from: Node, to: Node) -> Result<u16, Refusal>
         ensures { Answered self.old (Strike from to) result self.new }
     {
-        let Some(arrow) = self.arrow_named(from, to) else {
+        let Some(sought) = self.arrow_named(from, to) else {
             return Err(Refusal::NotThere);
         };
-        Ok(self.arrows.remove(&arrow)? as u16)
+        Ok(self.arrows.remove(&sought)? as u16)
     }
 
     // Puts an assumption behind the others, and answers its position. Kind 1 is that a basic value originates nowhere, and
@@ -73,7 +73,7 @@ impl Book {
     pub fn release(&mut self, kind: u16, value: u16, origin: Node) -> Result<u16, Refusal>
         ensures { Answered self.old (Release kind value origin) result self.new }
     {
-        let assumption = self.assumption_named(kind, value, origin)?;
-        Ok(self.assumptions.remove(&assumption)? as u16)
+        let sought = self.assumption_named(kind, value, origin)?;
+        Ok(self.assumptions.remove(&sought)? as u16)
     }
 }

@@ -16,10 +16,12 @@ pub enum Subject {
 impl From<Assumption> for Subject {
     fn from(assumption: Assumption) -> Subject {
         match assumption {
-            Assumption::NonOriginating(value) => Subject::Message(value),
-            Assumption::UniquelyOriginating(value, _) => Subject::Message(value),
-            Assumption::Authenticated(channel) => Subject::Channel(channel),
-            Assumption::Confidential(channel) => Subject::Channel(channel),
+            Assumption::NonOriginating(value) | Assumption::UniquelyOriginating(value, _) => {
+                Subject::Message(value)
+            }
+            Assumption::Authenticated(channel) | Assumption::Confidential(channel) => {
+                Subject::Channel(channel)
+            }
         }
     }
 }

@@ -22,7 +22,7 @@ use std::io;
 use words::InWords;
 
 // Makes the call, and prints it with its reply.
-fn answer(rt: &HostRuntime, book: &mut Book, place: usize, call: Call) -> io::Result<()> {
+fn answer(rt: &impl Print, book: &mut Book, place: usize, call: Call) -> io::Result<()> {
     let before = book.messages().len();
     let words = InWords(call);
     match call.make(book) {
@@ -39,9 +39,9 @@ fn answer(rt: &HostRuntime, book: &mut Book, place: usize, call: Call) -> io::Re
     }
 }
 
-// A line for each record, until the input or the reading ends. (`notes` has this loop over its own calls: a trait for both,
-// with a type in each program that has it, would be longer.)
-fn read(rt: &HostRuntime, input: &[u8], book: &mut Book) -> io::Result<()> {
+// A line for each record, until the input or the reading ends. (`notes` has this loop over its own calls: one function of two
+// closures for both would be longer.)
+fn read(rt: &impl Print, input: &[u8], book: &mut Book) -> io::Result<()> {
     let mut reader = Reader::new(input);
     loop {
         let place = reader.place();
@@ -55,15 +55,10 @@ fn read(rt: &HostRuntime, input: &[u8], book: &mut Book) -> io::Result<()> {
     }
 }
 
-fn run(rt: &HostRuntime) -> anyhow::Result<()> {
+fn main(rt: HostRuntime) -> anyhow::Result<()> {
     let bytes = input(rt.alloc(), rt.stdin())?;
     let mut book = Book::new(rt.alloc())?;
-    read(rt, bytes.as_slice(), &mut book)?;
-    standing::print(rt, &book)?;
+    read(&rt, bytes.as_slice(), &mut book)?;
+    standing::print(&rt, &book)?;
     Ok(())
-}
-
-// Each program has a `main`; what it does is `run`.
-fn main(rt: HostRuntime) -> anyhow::Result<()> {
-    run(&rt)
 }

@@ -58,7 +58,7 @@ impl fmt::Display for Added<'_> {
         let Some(trace) = self.book.trace(strand) else {
             return Ok(());
         };
-        let Some(event) = trace.events.get(index as usize).copied() else {
+        let Some(event) = trace.events.get(usize::from(index)).copied() else {
             return Ok(());
         };
         let messages = trace.messages;

@@ -10,7 +10,7 @@ use spelling::spelled::Spelled;
 use std::io;
 use strand::trace::Trace;
 
-pub(crate) fn print(rt: &HostRuntime, book: &Book) -> io::Result<()> {
+pub(crate) fn print(rt: &impl Print, book: &Book) -> io::Result<()> {
     println!(rt; "\nWhat stands:")?;
     messages(rt, book.messages())?;
     strands(rt, book)?;
@@ -18,7 +18,7 @@ pub(crate) fn print(rt: &HostRuntime, book: &Book) -> io::Result<()> {
     assumptions(rt, book.messages(), book.assumptions())
 }
 
-fn messages(rt: &HostRuntime, messages: &Messages) -> io::Result<()> {
+fn messages(rt: &impl Print, messages: &Messages) -> io::Result<()> {
     if messages.len() == 0 {
         return println!(rt; "no messages");
     }
@@ -30,11 +30,11 @@ fn messages(rt: &HostRuntime, messages: &Messages) -> io::Result<()> {
     Ok(())
 }
 
-fn strands(rt: &HostRuntime, book: &Book) -> io::Result<()> {
+fn strands(rt: &impl Print, book: &Book) -> io::Result<()> {
     if book.strand_count() == 0 {
         return println!(rt; "no strands");
     }
-    // So are strands: a book lends the trace of one.
+    // Strands too: a book lends one trace at a time.
     for number in 0..book.strand_count() as u16 {
         if let Some(trace) = book.trace(number) {
             println!(rt; "strand {number}")?;
@@ -44,7 +44,7 @@ fn strands(rt: &HostRuntime, book: &Book) -> io::Result<()> {
     Ok(())
 }
 
-fn events(rt: &HostRuntime, strand: u16, trace: Trace<'_>) -> io::Result<()> {
+fn events(rt: &impl Print, strand: u16, trace: Trace<'_>) -> io::Result<()> {
     if trace.events.is_empty() {
         return println!(rt; "  no events");
     }
@@ -57,7 +57,7 @@ fn events(rt: &HostRuntime, strand: u16, trace: Trace<'_>) -> io::Result<()> {
     Ok(())
 }
 
-fn arrows(rt: &HostRuntime, arrows: &[Arrow]) -> io::Result<()> {
+fn arrows(rt: &impl Print, arrows: &[Arrow]) -> io::Result<()> {
     if arrows.is_empty() {
         return println!(rt; "no arrows");
     }
@@ -69,7 +69,7 @@ fn arrows(rt: &HostRuntime, arrows: &[Arrow]) -> io::Result<()> {
 }
 
 fn assumptions(
-    rt: &HostRuntime,
+    rt: &impl Print,
     messages: &Messages,
     assumptions: &[Assumption],
 ) -> io::Result<()> {

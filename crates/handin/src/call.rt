@@ -108,6 +108,6 @@ impl Call {
 fn two_nodes(record: &Record<'_>) -> Option<(Node, Node)>
     ensures { MatchOption result (length «record».now.body.now ≢ 8) (λ n. «record».now.body.now ≡ flat (n.0.0 ∷ n.0.1 ∷ n.1.0 ∷ n.1.1 ∷ [])) }
 {
-    let [strand, index, other_strand, other_index] = record.fields::<4>()?;
-    Some(((strand, index), (other_strand, other_index)))
+    let [strand, index, to_strand, to_index] = record.fields::<4>()?;
+    Some(((strand, index), (to_strand, to_index)))
 }

@@ -1,4 +1,4 @@
-// The kinds of records.
+// The kinds of records: an enum, so that their numbers have names.
 ghost use Rattle.handin.specs.Calls.{Listed};
 
 use refusal::Refusal;

@@ -6,7 +6,7 @@ use book::book::Book;
 use refusal::Refusal;
 
 impl Call {
-    // What the book answers to the call.
+    // What the book answers to the call. (The calls are a closed enum; a closure for each would only name them again.)
     pub fn make(self, book: &mut Book) -> Result<u16, Refusal>
         ensures { Made book.old self result book.new }
     {

@@ -1,4 +1,5 @@
-// A listing: its entries in the order in which they came, at most LIMIT of them.
+// A listing: its entries in the order in which they came, at most LIMIT of them. Whether one may stand twice is for its
+// owner to say: `append` keeps it out, and `push` does not ask.
 ghost use Rattle.std.specs.Prelude.{◌≤◌, vec_len, vec_capacity};
 
 #[derive(Drop)]

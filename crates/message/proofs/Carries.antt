@@ -1,8 +1,8 @@
 -- The test for carried is the relation, and how it goes by numbers.
-use Rattle.std.proofs.Common.{◌≡◌, ℕ, ◌<◌, Bool, true, false, ◌||◌, ◌⊎◌, List, length, sym, refl, ap, ◌∙◌, subst, inl, inr, ⊎_elim}
+use Rattle.std.proofs.Common.{◌≡◌, ℕ, ◌<◌, Bool, true, false, ◌||◌, ◌⊎◌, List, length, sym, refl, arith, ap, ◌∙◌, subst, inl, inr, ⊎_elim}
 use Rattle.std.proofs.lemmas.Bool.{or_cases, or_left, or_right}
-use Rattle.message.specs.declared.stored.Inside.{Inside}
 use Rattle.message.specs.declared.stored.Stored.{Stored}
+use Rattle.message.specs.declared.stored.Stored.TheVariants.{Symbol, Inverse, Compound}
 use Rattle.message.specs.declared.table.Messages.{Messages}
 use Rattle.message.specs.Meaning.{at, value}
 use Rattle.message.specs.Table.{messages_of}
@@ -10,7 +10,6 @@ use Rattle.message.specs.declared.stored.Operation.TheVariants.{Pair, Asymmetric
 use Rattle.message.specs.Message.{Message, symbol, inverse_key, compound}
 use Rattle.message.specs.Same.{same, same_true, true_same}
 use Rattle.message.specs.Carried.{Carried, Tells, is_carried}
-use Rattle.message.specs.Inside.{Opens, carried_inside}
 use Rattle.message.proofs.Carrying.{carried_itself}
 
 -- a message or a part of it: what an encryption or a pair adds to the test
@@ -44,21 +43,28 @@ tells t m answer is = record {
 }
 
 not_same : {m n : Message} → (m ≡ n → ⊥) → same m n ≡ false
-not_same {m} {n} apart = by (same m n) refl
-  where
-    by : (b : Bool) → same m n ≡ b → same m n ≡ false
-    by true e = absurd (apart (same_true m n e))
-    by false e = e
+not_same {m} {n} apart = grind (arith, same_true)
 
 -- by numbers: of the message itself
 pub tells_itself : (ms : List Message) (inner outer : ℕ) → inner ≡ outer → Tells (at ms inner) (at ms outer) true
 tells_itself ms inner outer e =
     tells (at ms inner) (at ms outer) true (sym (carried_test (at ms inner) (at ms outer) (subst (λ (n : ℕ). Carried (at ms inner) (at ms n)) e (carried_itself (at ms inner)))))
 
+-- carried by the parts of what is stored
+abbrev pub inside : List Message → Message → Stored → Bool
+inside ms t (Symbol s n) = false
+inside ms t (Inverse n) = false
+inside ms t (Compound Pair x y) = is_carried t (at ms x) || is_carried t (at ms y)
+inside ms t (Compound AsymmetricEncryption x k) = is_carried t (at ms x)
+inside ms t (Compound SymmetricEncryption x k) = is_carried t (at ms x)
+
+is_inside : (ms : List Message) (t : Message) (s : Stored) → same t (value ms s) ≡ false → is_carried t (value ms s) ≡ inside ms t s
+is_inside ms t s other = grind arith
+
 -- and of another, by its parts
 pub tells_inside : (t : Messages) (inner outer : ℕ) → inner < length (messages_of t) → outer < length (messages_of t) → (inner ≡ outer → ⊥) →
-    (s : Stored) (inside : Inside) (answer : Bool) → value (messages_of t) s ≡ at (messages_of t) outer → Opens s inside →
-    answer ≡ carried_inside (messages_of t) (at (messages_of t) inner) inside → Tells (at (messages_of t) inner) (at (messages_of t) outer) answer
-tells_inside t inner outer hi ho apart s inside answer is opens told =
+    (s : Stored) (answer : Bool) → value (messages_of t) s ≡ at (messages_of t) outer →
+    answer ≡ inside (messages_of t) (at (messages_of t) inner) s → Tells (at (messages_of t) inner) (at (messages_of t) outer) answer
+tells_inside t inner outer hi ho apart s answer is told =
     let other = not_same (λ e. apart (t.once inner outer (hi, ho, e ∙ is))) in
-    tells _ _ answer (told ∙ (sym (opens.parts (messages_of t) (at (messages_of t) inner) other) ∙ ap (is_carried (at (messages_of t) inner)) is))
+    tells _ _ answer (told ∙ (sym (is_inside (messages_of t) (at (messages_of t) inner) s other) ∙ ap (is_carried (at (messages_of t) inner)) is))

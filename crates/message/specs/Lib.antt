@@ -8,4 +8,3 @@ pub mod Carrying
 pub mod Table
 pub mod Enter
 pub mod Resolve
-pub mod Inside

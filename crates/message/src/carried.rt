@@ -1,11 +1,10 @@
 // Whether a message of the table is carried by another.
 ghost use Rattle.std.specs.Prelude.{◌<◌, length};
 ghost use Rattle.message.specs.Carried.{CarriedBy, Tells};
-ghost use Rattle.message.specs.Inside.{Opens};
 ghost use Rattle.message.specs.Meaning.{at};
 ghost use Rattle.message.specs.Table.{messages_of};
 
-use crate::stored::{Inside, Operation, Stored};
+use crate::stored::{Operation, Stored};
 use crate::table::Messages;
 
 impl Messages {
@@ -14,13 +13,13 @@ impl Messages {
         ensures { CarriedBy (messages_of self.now) inner outer result }
     {
         let count = self.len();
-        if inner as usize >= count || outer as usize >= count {
+        if usize::from(inner) >= count || usize::from(outer) >= count {
             return None;
         }
         Some(self.is_carried(inner, outer))
     }
 
-    // The same of numbers that are there, so that a look-up always finds something.
+    // The same of numbers that are there: the look-up's `else` is never taken.
     #[tactic(auto, using(crate::proofs::Carries::tells_inside))]
     fn is_carried(&self, inner: u16, outer: u16) -> bool
         requires inner { inner < length (messages_of self.now) }
@@ -33,25 +32,14 @@ impl Messages {
         let Some(stored) = self.get(outer) else {
             return false;
         };
-        match stored.inside() {
-            Inside::Nothing => false,
-            Inside::Content(x) => self.is_carried(inner, x),
-            Inside::Both(x, y) => self.is_carried(inner, x) || self.is_carried(inner, y),
-        }
-    }
-}
-
-impl Stored {
-    // Both parts of a pair, the content of an encryption.
-    fn inside(self) -> Inside
-        ensures { Opens self result }
-    {
-        match self {
-            Stored::Symbol(..) | Stored::Inverse(_) => Inside::Nothing,
-            Stored::Compound(Operation::Pair, x, y) => Inside::Both(x, y),
+        match stored {
+            Stored::Symbol(..) | Stored::Inverse(_) => false,
+            Stored::Compound(Operation::Pair, x, y) => {
+                self.is_carried(inner, x) || self.is_carried(inner, y)
+            }
             Stored::Compound(Operation::AsymmetricEncryption, content, _)
             | Stored::Compound(Operation::SymmetricEncryption, content, _) => {
-                Inside::Content(content)
+                self.is_carried(inner, content)
             }
         }
     }

@@ -20,9 +20,8 @@ impl Messages {
         Ok(Messages { entries })
     }
 
-    // The number of the message that the form and its operands name: the old one where an equal message stands. All three
-    // are numbers, listed or not: a rule of the project.
-    // The memory stays the table's first.
+    // The number of the message that the form and its operands name: the old one where an equal message stands. It takes no
+    // memory. (Form and operands are numbers, listed or not: a rule of the project.)
     pub fn enter(&mut self, form: u16, x: u16, y: u16) -> Result<u16, Refusal>
         ensures entered { Entered (messages_of self.old) form x y result (messages_of self.new) }
         ensures memory { memory_of self.new ≡ memory_of self.old }

@@ -35,7 +35,7 @@ impl Messages {
     pub(crate) fn entry(&self, number: u16) -> Option<Entry>
         ensures { MatchOption result (length (messages_of self.now) ≤ number) (Holds (messages_of self.now) number) }
     {
-        self.entries.as_slice().get(number as usize).copied()
+        self.entries.as_slice().get(usize::from(number)).copied()
     }
 
     // The number of the message that the entry stores.

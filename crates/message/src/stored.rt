@@ -49,11 +49,3 @@ pub(crate) struct Entry {
     pub stored: Stored,
     pub size: u16,
 }
-
-// The parts by which a message carries others than itself, by number.
-#[derive(Clone, Copy)]
-pub(crate) enum Inside {
-    Nothing,
-    Content(u16),
-    Both(u16, u16),
-}

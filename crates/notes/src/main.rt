@@ -14,7 +14,7 @@ use std::io;
 
 // Makes the call, and prints it with its reply.
 fn answer(
-    rt: &HostRuntime,
+    rt: &impl Print,
     messages: &mut Messages,
     place: usize,
     call: Entering,
@@ -34,9 +34,9 @@ fn answer(
     }
 }
 
-// A line for each record, until the input or the reading ends. (`book_notes` has this loop over its own calls: a trait for
-// both, with a type in each program that has it, would be longer.)
-fn read(rt: &HostRuntime, input: &[u8], messages: &mut Messages) -> io::Result<()> {
+// A line for each record, until the input or the reading ends. (`book_notes` has this loop over its own calls: one function of
+// two closures for both would be longer.)
+fn read(rt: &impl Print, input: &[u8], messages: &mut Messages) -> io::Result<()> {
     let mut reader = Reader::new(input);
     loop {
         let place = reader.place();
@@ -50,14 +50,9 @@ fn read(rt: &HostRuntime, input: &[u8], messages: &mut Messages) -> io::Result<(
     }
 }
 
-fn run(rt: &HostRuntime) -> anyhow::Result<()> {
+fn main(rt: HostRuntime) -> anyhow::Result<()> {
     let bytes = input(rt.alloc(), rt.stdin())?;
     let mut messages = Messages::new(rt.alloc())?;
-    read(rt, bytes.as_slice(), &mut messages)?;
+    read(&rt, bytes.as_slice(), &mut messages)?;
     Ok(())
-}
-
-// Each program has a `main`; what it does is `run`.
-fn main(rt: HostRuntime) -> anyhow::Result<()> {
-    run(&rt)
 }

@@ -11,30 +11,30 @@ use std::fmt;
 
 #[derive(Clone, Copy, PartialEq, Eq, Debug)]
 pub enum Refusal {
-    // Row 1: the input ends inside a record.
-    Truncated,
-    // Row 2: a record of a kind or length that this file does not have.
-    NotARecord,
-    // Row 3: a value that its field does not have, or an unused field that is not 0.
-    NotListed,
-    // Row 4: a name of something (a message, a strand, a channel) that is not there.
-    NotThere,
-    // Row 5: a name of something that has not the sort asked for.
-    WrongSort,
-    // Row 6: what is to be entered stands already.
-    StandsAlready,
-    // Row 7: what is to be removed does not stand.
-    DoesNotStand,
-    // Row 8: one more than a limit allows.
-    OverLimit,
-    // Row 9: a buffer is shorter than what is to be written.
-    BufferShort,
-    // Row 10: a role that is not well formed.
-    RoleNotWellFormed,
+    // The input ends inside a record.
+    Truncated = 1,
+    // A record of a kind or length that this file does not have.
+    NotARecord = 2,
+    // A value that its field does not have, or an unused field that is not 0.
+    NotListed = 3,
+    // A name of something (a message, a strand, a channel) that is not there.
+    NotThere = 4,
+    // A name of something that has not the sort asked for.
+    WrongSort = 5,
+    // What is to be entered stands already.
+    StandsAlready = 6,
+    // What is to be removed does not stand.
+    DoesNotStand = 7,
+    // One more than a limit allows.
+    OverLimit = 8,
+    // A buffer is shorter than what is to be written.
+    BufferShort = 9,
+    // A role that is not well formed.
+    RoleNotWellFormed = 10,
 }
 
 impl Refusal {
-    // The refusal in words. (A method beside `Display`, which writes them, since it lends them for good.)
+    // The refusal in words, which `Display` writes. (By hand: a derived `Display` promises no text.)
     pub fn words(self) -> &'static str
         ensures { result.now ≡ in_words self }
     {
@@ -59,18 +59,7 @@ impl From<Refusal> for u8 {
     ghost from_gives = { λ refusal number. number ≡ row refusal };
 
     fn from(refusal: Refusal) -> u8 {
-        match refusal {
-            Refusal::Truncated => 1,
-            Refusal::NotARecord => 2,
-            Refusal::NotListed => 3,
-            Refusal::NotThere => 4,
-            Refusal::WrongSort => 5,
-            Refusal::StandsAlready => 6,
-            Refusal::DoesNotStand => 7,
-            Refusal::OverLimit => 8,
-            Refusal::BufferShort => 9,
-            Refusal::RoleNotWellFormed => 10,
-        }
+        refusal as u8
     }
 }
 

@@ -20,7 +20,7 @@ impl Entered<'_> {
     fn again(&self) -> &'static str
         ensures { result.now ≡ again self.now.before self.now.number }
     {
-        if (self.number as usize) < self.before {
+        if usize::from(self.number) < self.before {
             ", entered before"
         } else {
             ""

@@ -15,7 +15,7 @@ pub fn input<R: Read + Drop>(heap: Global, source: R) -> io::Result<Vec<u8>>
 {
     let mut bytes = Vec::new(heap);
     source.take(INPUT_LIMIT).read_to_end(&mut bytes)?;
-    // Nothing to cut; `read_to_end` does not say so of a source whose bytes are not known.
+    // (`read_to_end` promises no length for a source whose bytes are not known.)
     bytes.truncate(INPUT_LIMIT as usize);
     Ok(bytes)
 }

@@ -33,6 +33,7 @@ impl fmt::Display for Spelled<'_> {
         let Some(stored) = self.messages.get(self.number) else {
             return Ok(());
         };
+        // (Here and not in the arms, where the proof did not close.)
         let letter = stored.sort().map_or('T', Sort::letter);
         match stored {
             Stored::Symbol(_, n) => write!(f, "{letter}{n}"),

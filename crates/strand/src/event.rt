@@ -4,8 +4,8 @@
 #[derive(Clone, Copy, PartialEq, Eq, Debug, Default)]
 pub enum Sign {
     #[default]
-    Receives,
-    Transmits,
+    Receives = 0,
+    Transmits = 1,
 }
 
 // How the message is sent: plainly, or on the channel with this number. An enum of its own by a rule of the project.

@@ -20,13 +20,13 @@ impl Strands {
     pub fn events(&self, strand: u16) -> Option<&[Event]>
         ensures { MatchOption result (length (strands_of self.now) ≤ strand) (λ es. (strand < length (strands_of self.now)) × (es.now ≡ strand_at (strands_of self.now) strand)) }
     {
-        self.strands.get(strand as usize).map(ArrayVec::as_slice)
+        self.strands.get(usize::from(strand)).map(ArrayVec::as_slice)
     }
 
     // The event at a node.
     pub fn event(&self, node: Node) -> Option<Event>
         ensures { result ≡ event_at (strands_of self.now) node }
     {
-        self.events(node.0)?.get(node.1 as usize).copied()
+        self.events(node.0)?.get(usize::from(node.1)).copied()
     }
 }

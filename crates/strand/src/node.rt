@@ -16,8 +16,8 @@ pub fn code(node: Node) -> Option<u16>
     ensures code { MatchOption result (InRange node → ⊥) (λ c. InRange node × (c ≡ code_of node)) }
     ensures codes { Codes }
 {
-    let strand = node.0 as usize;
-    let index = node.1 as usize;
+    let strand = usize::from(node.0);
+    let index = usize::from(node.1);
     if strand >= STRAND_LIMIT || index >= EVENT_LIMIT {
         return None;
     }

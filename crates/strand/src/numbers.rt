@@ -38,10 +38,7 @@ impl From<Sign> for u16 {
     ghost from_gives = { λ sign number. number ≡ sign_number sign };
 
     fn from(sign: Sign) -> u16 {
-        match sign {
-            Sign::Receives => 0,
-            Sign::Transmits => 1,
-        }
+        sign as u16
     }
 }
 

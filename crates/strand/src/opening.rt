@@ -37,7 +37,7 @@ impl Strands {
         ensures added { Added (strands_of self.old) strand event result (strands_of self.new) }
         ensures memory { memory_of self.new ≡ memory_of self.old }
     {
-        let Some(events) = self.strands.get_mut(strand as usize) else {
+        let Some(events) = self.strands.get_mut(usize::from(strand)) else {
             return Err(Refusal::NotThere);
         };
         let index = events.len();

@@ -27,8 +27,8 @@ impl<'a> Trace<'a> {
         }
     }
 
-    // The index and the sign of the first event that carries the value. (A `for` and no `position`, which would look the event
-    // up again for its sign.)
+    // The index and the sign of the first event that carries the value. (A `for`, since it answers the sign of
+    // the event with its index.)
     fn first_carrying(&self, value: u16) -> Option<(u16, Sign)>
         requires { value < length (table_of self.now) }
         ensures decided { MatchOption result

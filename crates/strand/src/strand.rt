@@ -17,8 +17,8 @@ pub type Node = (u16, u16);
 #[derive(Drop)]
 pub struct Strands {
     pub(crate) strands: Vec<ArrayVec<Event, EVENT_LIMIT>>,
-    // The memory for all strands is there, and no more of them than the limit. (A vector and no `Listing`, which lends no
-    // entry to be changed: events are added to a strand where it stands.)
+    // The memory for all strands is there, and no more of them than the limit. (A vector and no `Listing`: a
+    // `get_mut` there, for events added to a strand where it stands, would serve here alone, and its contract is longer.)
     ghost room: { strand_limit ≤ vec_capacity strands },
     ghost few: { vec_len strands ≤ strand_limit },
     // No strand has more events than the limit.

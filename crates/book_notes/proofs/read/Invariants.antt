@@ -3,4 +3,4 @@ use Rattle.std.proofs.Common.{◌-◌, length}
 use Rattle.book_notes.proofs.read.Given as goal
 
 abbrev pub decreases-loop-record : goal.decreases-loop-record
-decreases-loop-record l = length l.reader.input.now - l.reader.place
+decreases-loop-record g l = length l.reader.input.now - l.reader.place

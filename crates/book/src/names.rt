@@ -53,7 +53,7 @@ impl Book {
 
 #[tactic(auto, unfolding(crate::specs::Names::arguments_reply))]
 impl Book {
-    // The assumption of this kind.
+    // The assumption of this kind. (The kinds are a closed enum; a closure for each would only name them again.)
     pub(crate) fn assumption_named(
         &self,
         kind: u16,

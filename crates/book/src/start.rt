@@ -25,8 +25,7 @@ impl Book {
         Ok(Book::over(messages, strands, arrows, assumptions))
     }
 
-    // A book of these parts, which are empty. (Apart from `new`, for the proof that it begins is an answer in proofs/: so a
-    // `new` with other parts is refused here, at what this asks of them.)
+    // A book of these parts. (Apart from `new`, to require that they are empty.)
     fn over(
         messages: Messages,
         strands: Strands,

@@ -42,7 +42,7 @@ impl Messages {
         }
     }
 
-    // Puts a new message at the end, if there is room. (It ensures what `admit` does, but only of a message that is new.)
+    // Puts a new message at the end, if there is room. (Apart from `admit`, to require that it is new.)
     fn append(&mut self, entry: Entry) -> Result<u16, Refusal>
         requires fits { Fits (messages_of self.old) entry }
         requires new { (k : ℕ) → k < length (messages_of self.old) → at (messages_of self.old) k ≢ value (messages_of self.old) entry.stored }

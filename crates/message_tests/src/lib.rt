@@ -8,9 +8,11 @@ mod tests {
     use refusal::Refusal;
     use std::test::Fail;
 
-    const ASYMMETRIC: u16 = 1;
+    const ASYMMETRIC_KEY: u16 = 1;
 
-    const DATA: u16 = 3;
+    const SYMMETRIC_KEY: u16 = 2;
+
+    const DATUM: u16 = 3;
 
     const TAG: u16 = 4;
 
@@ -23,7 +25,7 @@ mod tests {
     #[test]
     fn the_inverse_of_an_inverse_is_the_key(rt: HostRuntime) -> Result<(), Fail> {
         let mut messages = Messages::new(rt.alloc())?;
-        assert_eq!(rt; messages.enter(ASYMMETRIC, 0, 0)?, 0);
+        assert_eq!(rt; messages.enter(ASYMMETRIC_KEY, 0, 0)?, 0);
         assert_eq!(rt; messages.enter(INVERSE, 0, 0)?, 1);
         assert_eq!(rt; messages.enter(INVERSE, 1, 0)?, 0);
         Ok(())
@@ -33,7 +35,7 @@ mod tests {
     #[test]
     fn a_size_of_255_enters_and_256_does_not(rt: HostRuntime) -> Result<(), Fail> {
         let mut messages = Messages::new(rt.alloc())?;
-        let mut odd = messages.enter(ASYMMETRIC, 0, 0)?;
+        let mut odd = messages.enter(ASYMMETRIC_KEY, 0, 0)?;
         let mut even = messages.enter(INVERSE, odd, 0)?;
         for _ in 0..6 {
             let next = messages.enter(PAIR, odd, odd)?;
@@ -68,11 +70,11 @@ mod tests {
     fn a_full_table_still_finds_all(rt: HostRuntime) -> Result<(), Fail> {
         let mut messages = Messages::new(rt.alloc())?;
         for n in 0..MESSAGE_LIMIT as u16 {
-            assert_eq!(rt; messages.enter(DATA, n, 0), Ok(n));
+            assert_eq!(rt; messages.enter(DATUM, n, 0), Ok(n));
         }
         assert_eq!(rt; messages.enter(TAG, 0, 0), Err(Refusal::OverLimit));
         for n in 0..MESSAGE_LIMIT as u16 {
-            assert_eq!(rt; messages.enter(DATA, n, 0), Ok(n));
+            assert_eq!(rt; messages.enter(DATUM, n, 0), Ok(n));
         }
         assert_eq!(rt; messages.len(), MESSAGE_LIMIT);
         Ok(())
@@ -81,8 +83,8 @@ mod tests {
     #[test]
     fn a_key_is_not_carried_by_what_it_encrypts(rt: HostRuntime) -> Result<(), Fail> {
         let mut messages = Messages::new(rt.alloc())?;
-        let nonce = messages.enter(DATA, 0, 0)?;
-        let key = messages.enter(2, 0, 0)?;
+        let nonce = messages.enter(DATUM, 0, 0)?;
+        let key = messages.enter(SYMMETRIC_KEY, 0, 0)?;
         let sealed = messages.enter(SYMMETRIC_ENCRYPTION, nonce, key)?;
         assert_eq!(rt; messages.carried(nonce, sealed), Some(true));
         assert_eq!(rt; messages.carried(key, sealed), Some(false));

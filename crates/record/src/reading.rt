@@ -9,7 +9,8 @@ use refusal::Refusal;
 const HEAD: usize = 4;
 
 impl<'a> Reader<'a> {
-    // The next record, or `None` at the end of the input.
+    // The next record, or `None` at the end of the input. (No `Iterator`: a program needs the place also where no record is
+    // handed out, and what each further call answers is defined.)
     pub fn next(&mut self) -> Result<Option<Record<'a>>, Refusal>
         ensures { Answered self.old result self.new }
     {

@@ -43,7 +43,7 @@ def closing(text, start, pair):
 
 
 def functions():
-    """Each function with its parameters (name and type) and its clauses (kind and text)."""
+    """Each function with its parameters (name and type), its clauses (kind and text) and its body."""
     for path, text in sources(False):
         for m in re.finditer(r"^ *(?:pub(?:\(crate\))? )?fn (\w+)", text, re.M):
             opened = text.index("(", m.end())
@@ -58,7 +58,10 @@ def functions():
                 end = closing(text, opened, "{}")
                 clauses.append((found_next.group(1), " ".join(text[opened + 1 : end - 1].split())))
             line = text.count("\n", 0, m.start()) + 1
-            yield f"{path}:{line}", m.group(1), params, clauses
+            body = ""
+            if found_next and found_next.group(0) == "{":
+                body = text[found_next.end() : closing(text, found_next.start(), "{}") - 1]
+            yield f"{path}:{line}", m.group(1), params, clauses, " ".join(body.split())
 
 
 def point1():
@@ -89,7 +92,7 @@ def point1():
 def point2():
     # functions of one crate with the same clauses
     seen = {}
-    for where, name, _, clauses in functions():
+    for where, name, _, clauses, _ in functions():
         crate = where.split("/")[1]
         text = " ; ".join(f"{k} {c}" for k, c in clauses if k == "ensures")
         if text:
@@ -117,7 +120,10 @@ def point3():
 
 
 def point4():
-    yield from found(r"fn (?:is_same|first_same)\b[^{\n]*")
+    # equality that is more than a lone `==`, and traits of it
+    for where, name, _, _, body in functions():
+        if name in ("is_same", "first_same") and not re.fullmatch(r"[\w.*]+ == [\w.*]+", body):
+            yield f"{where}: fn {name}"
     yield from found(r"\w+\.0 [!=]= \w+(?:\.0)?[^\n]*\.1 [!=]= [^\n]*")
     yield from found(r"fn (?:listed|number|letter|words|of|name)\((?:self|number: u16|\w+: [A-Z]\w+)\)[^\n]*")
     yield from found(r"fn answer\(\w+: Result[^\n]*")
@@ -130,7 +136,7 @@ def point4():
 
 def point5():
     facts, groups = {}, {}
-    for where, name, params, clauses in functions():
+    for where, name, params, clauses, _ in functions():
         for kind, clause in clauses:
             facts.setdefault(clause, []).append(f"{where} {name}")
         group = tuple(sorted(p for p, _ in params if p not in ("f", "rt", "self")))

@@ -8,17 +8,11 @@ use Rattle.message.specs.Meaning.{Distinct, at}
 use Rattle.message.specs.Same.{same, same_true, true_same}
 use Rattle.strand.proofs.Nodes.{equal_nodes}
 use Rattle.assumption.specs.declared.assumption.Assumption.{Assumption}
-use Rattle.assumption.specs.Assumption.{EqualAssumptions, ValuesWithin, no_assumption, same_assumption, same_by, supposed, value_reach}
+use Rattle.assumption.specs.Assumption.{EqualAssumptions, ValuesWithin, same_assumption, same_by, supposed, value_reach}
 
 -- the test of messages and that of their numbers agree in a table that holds none twice
 same_at : (ms : List Message) → Distinct ms → (v w : ℕ) → v < length ms → w < length ms → same (at ms v) (at ms w) ≡ eqb v w
-same_at ms once v w hv hw = go (same (at ms v) (at ms w)) refl (eqb v w) refl
-  where
-    go : (b : Bool) → same (at ms v) (at ms w) ≡ b → (c : Bool) → eqb v w ≡ c → b ≡ c
-    go true t true u = refl
-    go true t false u = absurd (true≢false (sym (eq-eqb v w (once v w (hv, hw, same_true _ _ t))) ∙ u))
-    go false t true u = absurd (false≢true (sym t ∙ true_same _ _ (ap (at ms) (eqb-true v w u))))
-    go false t false u = refl
+same_at ms once v w hv hw = grind (arith, once, same_true, true_same)
 
 same_supposed : (ms : List Message) → Distinct ms → (a b : Assumption ℕ) → value_reach a ≤ length ms → value_reach b ≤ length ms →
     same_assumption (supposed ms a) (supposed ms b) ≡ same_by eqb a b
@@ -28,7 +22,7 @@ same_supposed ms once a b ha hb = grind (arith, same_at)
 pub place_supposed : (ms : List Message) → Distinct ms → (xs : List (Assumption ℕ)) (a : Assumption ℕ) → ValuesWithin ms xs → value_reach a ≤ length ms →
     place same_assumption (supposed ms a) (map (supposed ms) xs) ≡ place (same_by eqb) a xs
 place_supposed ms once xs a within h =
-    place_map (same_by eqb) same_assumption (supposed ms) a no_assumption xs (λ k l. same_supposed ms once (get_or xs k no_assumption) a (within k l) h)
+    place_map (same_by eqb) same_assumption (supposed ms) a a xs (λ k l. same_supposed ms once (get_or xs k a) a (within k a l) h)
 
 -- two assumptions of one kind are one exactly when their parts are, and two of different kinds never
 pub equal_assumptions : EqualAssumptions

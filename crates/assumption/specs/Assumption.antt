@@ -1,5 +1,5 @@
 -- Assumptions: their kinds by number, and assumptions on messages in place of their numbers.
-use Rattle.std.specs.Prelude.{◌≡◌, ℕ, ◌+◌, ◌<◌, ◌≤◌, Bool, true, false, ◌&&◌, ◌||◌, ◌↔◌, List, length, ◌==◌, nat_le, slice_index_or}
+use Rattle.std.specs.Prelude.{◌≡◌, ℕ, ◌+◌, ◌<◌, ◌≤◌, Bool, true, false, ◌&&◌, ◌||◌, ◌↔◌, List, length, ◌==◌, nat_le, All}
 use Rattle.message.specs.Message.{Message}
 use Rattle.message.specs.Meaning.{at}
 use Rattle.message.specs.Same.{same}
@@ -52,13 +52,9 @@ value_reach (UniquelyOriginating v n) = v + 1
 value_reach (Authenticated c) = 0
 value_reach (Confidential c) = 0
 
--- stands for an assumption where there is none
-abbrev pub no_assumption : Assumption ℕ
-no_assumption = NonOriginating 0
-
 -- each value is a message's number
 abbrev pub ValuesWithin : List Message → List (Assumption ℕ) → Type 0
-ValuesWithin ms xs = (k : ℕ) → k < length xs → value_reach (slice_index_or xs k no_assumption) ≤ length ms
+ValuesWithin ms xs = All (λ a. value_reach a ≤ length ms) xs
 
 -- whether two assumptions are one, by a test of their values
 abbrev pub same_by : {V : Type 0} → (V → V → Bool) → Assumption V → Assumption V → Bool

@@ -2,6 +2,7 @@
 use Rattle.std.proofs.Common.{◌≡◌, ℕ, ◌<◌, ◌≤◌, ◌⊎◌, List, [], ◌∷◌, ◌++◌, length, nat_eq, Ok, Err, Result, sym, refl, ap, ◌∙◌, subst}
 use Rattle.std.specs.List.{remove}
 use Rattle.std.proofs.lemmas.List.{get_or_append_left, get_or_push, length_push}
+use Rattle.std.proofs.lemmas.List.Sums.{fails_before_first}
 use Rattle.std.proofs.lemmas.List.Edits.{get_or-remove_above, get_or-remove_below, length-remove}
 use Rattle.refusal.specs.declared.Refusal.{Refusal}
 use Rattle.refusal.specs.Rows.{by_row, row}
@@ -11,7 +12,6 @@ use Rattle.strand.specs.Node.{Node}
 use Rattle.strand.specs.Strands.{strands_of}
 use Rattle.listing.specs.Held.{entries_of, memory_of}
 use Rattle.listing.specs.Listing.{Appended, Removed}
-use Rattle.listing.proofs.Single.{once_appended, once_removed}
 use Rattle.assumption.specs.declared.assumption.Assumption.{Assumption}
 use Rattle.assumption.specs.Assumption.{same_by, supposed, value_reach}
 use Rattle.book.specs.declared.book.Book.{Book}
@@ -89,6 +89,6 @@ module _ (b b' : Book) (kind value : ℕ) (origin : Node) (a : Assumption ℕ)
 
 -- what the checks of `assume` and `release` take: also that then no assumption stands twice, and each is on a message that
 -- stands
-pub ruleset assuming = (assume_unnamed, assumed, not_assumed, once_appended, get_or_append_left, get_or_push, length_push)
+pub ruleset assuming = (assume_unnamed, assumed, not_assumed, fails_before_first, get_or_append_left, get_or_push, length_push)
 
-pub ruleset releasing = (release_unnamed, released, not_released, once_removed, get_or-remove_below, get_or-remove_above, length-remove)
+pub ruleset releasing = (release_unnamed, released, not_released, get_or-remove_below, get_or-remove_above, length-remove)

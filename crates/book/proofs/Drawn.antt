@@ -1,15 +1,17 @@
 -- `draw` and `strike`: what the list of arrows answers and leaves is what the book does.
 use Rattle.std.proofs.Common.{◌≡◌, ℕ, ◌<◌, ◌≤◌, true, false, ◌⊎◌, List, [], ◌∷◌, ◌++◌, length, Ok, Err, Result, sym, refl, subst}
 use Rattle.std.specs.List.{remove}
+use Rattle.std.proofs.lemmas.List.{get_or_append_left, get_or_push, length_push}
+use Rattle.std.proofs.lemmas.List.Sums.{fails_before_first}
+use Rattle.std.proofs.lemmas.List.Quantifiers.{all_pairs_remove}
 use Rattle.refusal.specs.declared.Refusal.{Refusal}
 use Rattle.refusal.specs.declared.Refusal.TheVariants.{NotThere}
 use Rattle.refusal.specs.Rows.{row}
-use Rattle.listing.specs.Place.{place}
+use Rattle.listing.specs.Place.{Once, place}
 use Rattle.strand.specs.Node.{Node, is_node}
 use Rattle.strand.specs.Strands.{strands_of}
 use Rattle.listing.specs.Held.{entries_of, memory_of}
 use Rattle.listing.specs.Listing.{Appended, Removed}
-use Rattle.listing.proofs.Single.{once_appended, once_removed}
 use Rattle.bundle.specs.declared.arrow.Arrow.{Arrow}
 use Rattle.bundle.specs.Arrow.{same_arrow}
 use Rattle.book.specs.declared.book.Book.{Book}
@@ -73,7 +75,11 @@ module _ (b b' : Book) (from to : Node) (first : is_node (strands_of b.strands) 
     pub not_struck : row q ≡ 7 → length xs ≤ at → Answered b (Strike from to) r b'
     not_struck seven absent = subst (λ (p : Result ℕ Refusal). Answered b (Strike from to) p b') (sym is) (removed (Err q) (seven, absent, same))
 
--- what the checks of `draw` and `strike` take: also that no arrow then stands twice
-pub ruleset drawing = (draw_unjoined, drawn, not_drawn, once_appended, once_removed)
+-- no arrow stands twice where one is taken out
+pub once_struck : (xs : List Arrow) (k : ℕ) → k < length xs → Once same_arrow xs → Once same_arrow (remove xs k)
+once_struck xs k h once = all_pairs_remove (λ x y. same_arrow x y ≡ false) xs k h once
 
-pub ruleset striking = (strike_unjoined, struck, not_struck, once_appended, once_removed)
+-- what the checks of `draw` and `strike` take: also that no arrow then stands twice
+pub ruleset drawing = (draw_unjoined, drawn, not_drawn, fails_before_first, get_or_append_left, get_or_push, length_push)
+
+pub ruleset striking = (strike_unjoined, struck, not_struck, once_struck)

@@ -40,14 +40,8 @@ entered b b' form x y r reply now kept room strands arrows assumptions =
 
 -- no table becomes shorter
 module _ (ms after : List Message) (form x y : ℕ) (now : after ≡ after_enter ms form x y) where
-  more : length ms ≤ length after
+  pub more : length ms ≤ length after
   more = let g = grows ms form x y in omega (arith, ap length now)
 
-  pub events_grown : (ss : List (List (Event ℕ))) → EventsWithin ms ss → EventsWithin after ss
-  events_grown ss within s d l k h = let w = within s d l k h in omega (arith, more)
-
-  pub values_grown : (xs : List (Assumption ℕ)) → ValuesWithin ms xs → ValuesWithin after xs
-  values_grown xs within k h = let w = within k h in omega (arith, more)
-
 -- what the check of `enter` takes
-pub ruleset entering = (entered, events_grown, values_grown)
+pub ruleset entering = (entered, more)

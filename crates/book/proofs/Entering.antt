@@ -1,5 +1,5 @@
 -- A table that grows leaves strands and assumptions as they are.
-use Rattle.std.proofs.Common.{◌≡◌, ℕ, suc, ◌<◌, ◌≤◌, Bool, true, false, cond, List, [], ◌∷◌, ◌++◌, map, length, Ok, Err, Result, refl, ap, ap₂, arith}
+use Rattle.std.proofs.Common.{◌≡◌, ℕ, ◌<◌, ◌≤◌, Bool, true, false, cond, List, [], ◌∷◌, ◌++◌, map, length, Ok, Err, Result, refl, ap, ap₂, arith}
 use Rattle.std.proofs.lemmas.List.{length_push}
 use Rattle.std.proofs.lemmas.List.Elements.{All-head, All-tail}
 use Rattle.refusal.specs.Rows.{unless_refused}
@@ -23,17 +23,14 @@ module _ (ms after : List Message) (kept : (k : ℕ) → k < length ms → at af
       (traces_grown ts (All-tail (Within ms) t ts within))
 
   supposed_grown : (a : Assumption ℕ) → value_reach a ≤ length ms → supposed after a ≡ supposed ms a
-  supposed_grown (NonOriginating v) h = ap {B = Assumption Message} NonOriginating (kept v (omega arith))
-  supposed_grown (UniquelyOriginating v n) h = ap (λ (m : Message). UniquelyOriginating m n) (kept v (omega arith))
-  supposed_grown (Authenticated c) h = refl
-  supposed_grown (Confidential c) h = refl
+  supposed_grown a h = grind (arith, kept)
 
   pub assumptions_grown : (xs : List (Assumption ℕ)) → ValuesWithin ms xs → map (supposed after) xs ≡ map (supposed ms) xs
   assumptions_grown [] within = refl
   assumptions_grown (a ∷ xs) within =
       ap₂ (λ (b : Assumption Message) (bs : List (Assumption Message)). b ∷ bs)
-      (supposed_grown a (within 0 (omega arith)))
-      (assumptions_grown xs (λ k h. within (suc k) (omega (arith, h))))
+      (supposed_grown a (within 0 a (omega arith)))
+      (assumptions_grown xs (All-tail (λ b. value_reach b ≤ length ms) a xs within))
 
 -- no call makes the table shorter
 pub grows : (ms : List Message) (form x y : ℕ) → length ms ≤ length (after_enter ms form x y)

@@ -1,5 +1,5 @@
 -- What can stand still can when more messages stand, or more nodes are there.
-use Rattle.std.proofs.Common.{List}
+use Rattle.std.proofs.Common.{List, arith}
 use Rattle.std.specs.List.{All, Contains}
 use Rattle.std.proofs.lemmas.List.Elements.{All-weaker}
 use Rattle.message.specs.Message.{Message}
@@ -34,10 +34,7 @@ module _ (ms ms' : List Message) (more : KeepsMessages ms ms') where
 
   pub assumption_kept : (ss ss' : List Trace) → KeepsNodes ss ss' → (a : Assumption Message) → StandingAssumption ms ss a →
       StandingAssumption ms' ss' a
-  assumption_kept ss ss' nodes (NonOriginating v) h = value_kept v h
-  assumption_kept ss ss' nodes (UniquelyOriginating v n) (value, origin) = (value_kept v value, nodes n origin)
-  assumption_kept ss ss' nodes (Authenticated c) h = h
-  assumption_kept ss ss' nodes (Confidential c) h = h
+  assumption_kept ss ss' nodes a h = grind (arith, value_kept, nodes)
 
 pub arrow_kept : (ss ss' : List Trace) → KeepsNodes ss ss' → (a : Arrow) → StandingArrow ss a → StandingArrow ss' a
 arrow_kept ss ss' nodes a h = record { from = nodes a.from h.from; to = nodes a.to h.to }

@@ -37,14 +37,14 @@ orderly_none =
       messages = record {
         few = omega arith;
         once = λ i j h. absurd (omega (arith, h.0));
-        small = λ k h. absurd (omega arith);
-        sorted = λ k h. absurd (omega arith);
+        small = λ k d h. absurd (omega arith);
+        sorted = λ k d h. absurd (omega arith);
       };
       parts = All-nil (StandingParts []);
       strands = omega arith;
       traces = All-nil (StandingTrace []);
-      arrows = record { few = omega arith; each = All-nil (StandingArrow []); once = λ i j x e f. cc };
-      assumptions = record { few = omega arith; each = All-nil (StandingAssumption [] []); once = λ i j x e f. cc };
+      arrows = record { few = omega arith; each = All-nil (StandingArrow []); once = λ i j d l h. absurd (omega arith) };
+      assumptions = record { few = omega arith; each = All-nil (StandingAssumption [] []); once = λ i j d l h. absurd (omega arith) };
     }
 
 module _ (e : Entries) (o : Orderly e) where

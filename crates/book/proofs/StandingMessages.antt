@@ -1,29 +1,24 @@
 -- `enter` leaves messages that can stand together.
 use Rattle.std.proofs.Common.{◌≡◌, ℕ, ◌<◌, ◌≤◌, true, false, not, ◌&&◌, eqb, ◌⊎◌, List, [], ◌∷◌, ◌++◌, length, refl, ap, inl, inr, arith}
 use Rattle.std.specs.List.{Contains}
-use Rattle.std.proofs.lemmas.List.Elements.{Contains-append_left}
+use Rattle.std.proofs.lemmas.List.Elements.{All-push, Contains-append_left}
 use Rattle.std.proofs.lemmas.List.{get_or_past, length_push}
 use Rattle.std.proofs.lemmas.Bool.{and_from, and_parts, cases_lt, cond_both, eq-eqb, eqb-false, leb-false, leb-true, ltb-false, not-false, or_parts}
 use Rattle.listing.proofs.Places.{place_before}
 use Rattle.message.specs.declared.stored.Symbol.TheVariants.{AsymmetricKey, SymmetricKey, Datum, Tag}
 use Rattle.message.specs.declared.stored.Operation.TheVariants.{AsymmetricEncryption, SymmetricEncryption}
 use Rattle.message.specs.declared.stored.Sort.TheVariants.{Asymmetric}
-use Rattle.message.specs.Message.{Message, compound, inverse, inverse_key, of_sort, symbol, well_sorted}
+use Rattle.message.specs.Message.{Message, compound, inverse, inverse_key, of_sort, size, size_limit, symbol, well_sorted}
 use Rattle.message.specs.Same.{same, true_same}
 use Rattle.message.specs.Meaning.{WellSorted, at}
 use Rattle.message.specs.Enter.{enter_rules, named, stands, unlisted, with_message, wrong_sort}
 use Rattle.message.specs.Table.{Numbered}
-use Rattle.message.proofs.Growing.{distinct_push, small_push, sorted_push}
+use Rattle.message.proofs.Growing.{distinct_push}
 use Rattle.book.proofs.Growing.{KeepsMessages}
 use Rattle.book.proofs.Passing.{NoneFits, asked, second_fails}
 
 inverse_sorted : (m : Message) → well_sorted m ≡ true → well_sorted (inverse m) ≡ true
-inverse_sorted (symbol AsymmetricKey n) h = refl
-inverse_sorted (symbol SymmetricKey n) h = refl
-inverse_sorted (symbol Datum n) h = refl
-inverse_sorted (symbol Tag n) h = refl
-inverse_sorted (inverse_key n) h = refl
-inverse_sorted (compound o x y) h = h
+inverse_sorted m h = grind arith
 
 module _ (ms : List Message) (sorted : WellSorted ms) where
   -- also the message that stands for one where there is none
@@ -31,7 +26,7 @@ module _ (ms : List Message) (sorted : WellSorted ms) where
   sorted_at k = go (cases_lt k (length ms))
     where
       go : (k < length ms) ⊎ (length ms ≤ k) → well_sorted (at ms k) ≡ true
-      go (inl l) = sorted k l
+      go (inl l) = sorted k (symbol AsymmetricKey 0) l
       go (inr l) = ap well_sorted (get_or_past ms k (symbol AsymmetricKey 0) l)
 
   module _ (form x y : ℕ) (listed : unlisted form y ≡ false) (right : wrong_sort ms form x y ≡ false) where
@@ -90,8 +85,8 @@ module _ (ms : List Message) (form x y : ℕ) where
           record {
             few = omega (arith, free, length_push ms m);
             once = distinct_push ms m numbered.once (absent ms m t);
-            small = small_push ms m numbered.small (ltb-false 255 _ small);
-            sorted = sorted_push ms m numbered.sorted (named_sorted ms numbered.sorted form x y listed right);
+            small = All-push (λ n. size n ≤ size_limit) ms m numbered.small (ltb-false 255 _ small);
+            sorted = All-push (λ n. well_sorted n ≡ true) ms m numbered.sorted (named_sorted ms numbered.sorted form x y listed right);
           }
 
   pub entered_kept : KeepsMessages ms (with_message ms m)

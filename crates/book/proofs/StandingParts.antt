@@ -12,17 +12,10 @@ use Rattle.book.proofs.Growing.{KeepsMessages}
 use Rattle.book.proofs.Passing.{NoneFits, asked}
 
 parts_kept : (ms ms' : List Message) → KeepsMessages ms ms' → (m : Message) → StandingParts ms m → StandingParts ms' m
-parts_kept ms ms' more (symbol s n) h = tt
-parts_kept ms ms' more (inverse_key n) h = more _ h
-parts_kept ms ms' more (compound o x y) (first, second) = (more x first, more y second)
+parts_kept ms ms' more m h = grind (arith, more)
 
 inverse_parts : (ms : List Message) (m : Message) → Contains ms m → StandingParts ms m → StandingParts ms (inverse m)
-inverse_parts ms (symbol AsymmetricKey n) there h = there
-inverse_parts ms (symbol SymmetricKey n) there h = tt
-inverse_parts ms (symbol Datum n) there h = tt
-inverse_parts ms (symbol Tag n) there h = tt
-inverse_parts ms (inverse_key n) there h = tt
-inverse_parts ms (compound o x y) there h = h
+inverse_parts ms m there h = grind (arith, there, h)
 
 module _ (ms : List Message) (form x y : ℕ) where
   module _ (each : All (StandingParts ms) ms) (listed : unlisted form y ≡ false) (present : missing ms form x y ≡ false) where

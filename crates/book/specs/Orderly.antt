@@ -1,5 +1,5 @@
 -- What can stand in a book at all, whatever calls were made.
-use Rattle.std.specs.Prelude.{◌≡◌, ℕ, ◌≤◌, true, List, length, is_some, slice_get, All, Contains, Some}
+use Rattle.std.specs.Prelude.{◌≡◌, ◌≢◌, ℕ, ◌≤◌, true, List, length, is_some, All, AllPairs, Contains}
 use Rattle.message.specs.declared.stored.Symbol.TheVariants.{AsymmetricKey}
 use Rattle.message.specs.Message.{Message, compound, inverse_key, sort_of, symbol}
 use Rattle.message.specs.Table.{Numbered}
@@ -64,7 +64,7 @@ StandingAssumption ms ss (Confidential c) = IsChannel c
 
 -- nothing stands at two places of the list
 abbrev pub NoneTwice : {X : Type 0} → List X → Type 0
-NoneTwice {X} xs = (i j : ℕ) (x : X) → slice_get xs i ≡ Some x → slice_get xs j ≡ Some x → i ≡ j
+NoneTwice xs = AllPairs (λ x y. x ≢ y) xs
 
 -- a list of at most so many entries, each of which can stand, and none of which stands twice
 pub record Listed {X : Type 0} (limit : ℕ) (Standing : X → Type 0) (xs : List X) : Type 0 where

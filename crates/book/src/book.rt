@@ -4,8 +4,8 @@ ghost use Rattle.message.specs.Table.{messages_of};
 ghost use Rattle.strand.specs.Strands.{strands_of};
 ghost use Rattle.listing.specs.Held.{entries_of};
 ghost use Rattle.listing.specs.Place.{Once};
-ghost use Rattle.bundle.specs.Arrow.{no_arrow, same_arrow};
-ghost use Rattle.assumption.specs.Assumption.{ValuesWithin, no_assumption, same_by};
+ghost use Rattle.bundle.specs.Arrow.{same_arrow};
+ghost use Rattle.assumption.specs.Assumption.{ValuesWithin, same_by};
 ghost use Rattle.book.specs.Within.{EventsWithin};
 
 use assumption::assumption::{ASSUMPTION_LIMIT, Assumption};
@@ -24,6 +24,6 @@ pub struct Book {
     ghost events_within: { EventsWithin (messages_of messages) (strands_of strands) },
     ghost values_within: { ValuesWithin (messages_of messages) (entries_of assumptions) },
     // No arrow and no assumption stands twice.
-    ghost arrows_once: { Once same_arrow no_arrow (entries_of arrows) },
-    ghost assumptions_once: { Once (same_by nat_eq) no_assumption (entries_of assumptions) },
+    ghost arrows_once: { Once same_arrow (entries_of arrows) },
+    ghost assumptions_once: { Once (same_by nat_eq) (entries_of assumptions) },
 }

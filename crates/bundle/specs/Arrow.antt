@@ -7,10 +7,6 @@ use Rattle.bundle.specs.declared.arrow.Arrow.{Arrow}
 abbrev pub arrow_limit : ℕ
 arrow_limit = 1024
 
--- stands for an arrow where there is none
-abbrev pub no_arrow : Arrow
-no_arrow = record { from = (0, 0); to = (0, 0) }
-
 -- whether two arrows are one
 abbrev pub same_arrow : Arrow → Arrow → Bool
 same_arrow a b = same_node a.from b.from && same_node a.to b.to

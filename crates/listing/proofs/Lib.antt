@@ -1,4 +1,3 @@
 pub mod Places
 pub mod Replies
 pub mod Each
-pub mod Single

@@ -1,23 +1,17 @@
 -- A table with one more entry keeps its facts.
-use Rattle.std.proofs.Common.{◌≡◌, ℕ, ◌+◌, ◌<◌, ◌≤◌, true, ◌⊎◌, List, [], ◌∷◌, ◌++◌, length, sym, ap, ◌∙◌, inl, inr, arith}
+use Rattle.std.proofs.Common.{◌≡◌, ℕ, ◌+◌, ◌<◌, ◌≤◌, ◌⊎◌, List, [], ◌∷◌, ◌++◌, length, sym, ap, ◌∙◌, inl, inr, arith}
 use Rattle.std.proofs.lemmas.List.{length_push, get_or_push, get_or_append_left}
 use Rattle.std.proofs.lemmas.Bool.{cases_lt}
 use Rattle.listing.proofs.Each.{each_push}
 use Rattle.message.specs.declared.stored.Symbol.TheVariants.{AsymmetricKey}
 use Rattle.message.specs.declared.stored.Stored.{Stored}
 use Rattle.message.specs.declared.stored.Entry.{Entry}
-use Rattle.message.specs.Message.{Message, symbol, size, well_sorted}
-use Rattle.message.specs.Meaning.{at, value, meanings, reach, no_entry, InOrder, Sized, Small, Distinct, WellSorted}
+use Rattle.message.specs.Message.{Message, symbol, size}
+use Rattle.message.specs.Meaning.{at, value, meanings, reach, no_entry, InOrder, Sized, Distinct}
 use Rattle.message.proofs.Meanings.{length_meanings, meanings_push}
 
 pub ordered_push : (es : List Entry) (e : Entry) → InOrder es → reach e.stored ≤ length es → InOrder (es ++ e ∷ [])
 ordered_push es e ordered older = each_push no_entry (λ f k. reach f.stored ≤ k) es e ordered older
-
-pub small_push : (ms : List Message) (m : Message) → Small ms → size m ≤ 255 → Small (ms ++ m ∷ [])
-small_push ms m small new = each_push (symbol AsymmetricKey 0) (λ n k. size n ≤ 255) ms m small new
-
-pub sorted_push : (ms : List Message) (m : Message) → WellSorted ms → well_sorted m ≡ true → WellSorted (ms ++ m ∷ [])
-sorted_push ms m sorted new = each_push (symbol AsymmetricKey 0) (λ n k. well_sorted n ≡ true) ms m sorted new
 
 pub sized_push : (es : List Entry) (e : Entry) → Sized es → e.size ≡ size (value (meanings es) e.stored) → Sized (es ++ e ∷ [])
 sized_push es e sized new =

@@ -20,7 +20,7 @@ holds t n e h is =
         older = subst (λ (e : Entry). reach e.stored ≤ n) (sym is) (t.ordered n h);
       };
       sizes = record { there = l; is = sized };
-      small = let s = t.small n l in omega (arith, sized);
+      small = let s = t.small n (at (messages_of t) n) l in omega (arith, sized);
     }
 
 pub looked_up : (t : Messages) (n : ℕ) (r : Option Entry) →

@@ -2,6 +2,7 @@
 use Rattle.std.proofs.Common.{◌≡◌, ℕ, ◌<◌, ◌≤◌, List, [], ◌∷◌, ◌++◌, Bool, true, ◌↔◌, length, get_or, Ok, Err, Some, None, Option, Result, sym, ap, ◌∙◌, subst, arith}
 use Rattle.std.specs.List.{position}
 use Rattle.std.proofs.lemmas.Bool.{both_ways}
+use Rattle.std.proofs.lemmas.List.Elements.{All-push}
 use Rattle.std.proofs.lemmas.List.Quantifiers.{position-Some}
 use Rattle.listing.proofs.Places.{position-None}
 use Rattle.refusal.specs.declared.Refusal.{Refusal}
@@ -9,12 +10,13 @@ use Rattle.listing.specs.Listing.{Pushed}
 use Rattle.message.specs.declared.stored.Stored.{Stored}
 use Rattle.message.specs.declared.stored.Entry.{Entry}
 use Rattle.message.specs.declared.table.Messages.{Messages}
+use Rattle.message.specs.Message.{size, size_limit, well_sorted}
 use Rattle.message.specs.Meaning.{at, value, meanings, reach, no_entry, InOrder, Sized, Small, Distinct, WellSorted}
 use Rattle.message.specs.Table.{entries_of, messages_of}
 use Rattle.message.specs.Resolve.{Admitted, Fits, Found}
 use Rattle.message.proofs.Admitting.{found, added, over}
 use Rattle.message.proofs.Meanings.{length_meanings, meaning_at, meanings_push}
-use Rattle.message.proofs.Growing.{ordered_push, sized_push, small_push, distinct_push, sorted_push, value_injective}
+use Rattle.message.proofs.Growing.{ordered_push, sized_push, distinct_push, value_injective}
 
 -- an entry that stores it has the message's number
 pub stored_found : (t : Messages) (s : Stored) (n : ℕ) → n < length (entries_of t) → (get_or (entries_of t) n no_entry).stored ≡ s → Admitted (messages_of t) (value (messages_of t) s) (Ok n) (messages_of t)
@@ -58,9 +60,9 @@ module _ (t : Messages) (e : Entry) (F : Fits (messages_of t) e) (new : (k : ℕ
   tabled (Ok k) (number, few, pushed) = record {
     ordered = subst InOrder (sym pushed) (ordered_push (entries_of t) e t.ordered (let o = F.older in let l = length_meanings (entries_of t) in omega arith));
     sized = subst Sized (sym pushed) (sized_push (entries_of t) e t.sized F.sized);
-    small = subst Small (sym (grown pushed)) (small_push (messages_of t) _ t.small (let s = F.sized in let l = F.small in omega arith));
+    small = subst Small (sym (grown pushed)) (All-push (λ m. size m ≤ size_limit) (messages_of t) _ t.small (let s = F.sized in let l = F.small in omega arith));
     once = subst Distinct (sym (grown pushed)) (distinct_push (messages_of t) _ t.once new);
-    sorted = subst WellSorted (sym (grown pushed)) (sorted_push (messages_of t) _ t.sorted (F.sorted t.sorted));
+    sorted = subst WellSorted (sym (grown pushed)) (All-push (λ m. well_sorted m ≡ true) (messages_of t) _ t.sorted (F.sorted t.sorted));
   }
   tabled (Err q) (eight, many, kept) =
       subst Tabled (sym kept) (record { ordered = t.ordered; sized = t.sized; small = t.small; once = t.once; sorted = t.sorted })

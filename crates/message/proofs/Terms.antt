@@ -76,9 +76,7 @@ normal_term (compound o x y) = ap₂ (compound o) (normal_term x) (normal_term y
 
 sort_term : (m : Message) → term_sort (term_of m) ≡ sort_of m
 unfolding term_of
-sort_term (symbol s n) = refl
-sort_term (inverse_key n) = refl
-sort_term (compound o x y) = refl
+sort_term m = grind arith
 
 formed_term : (m : Message) → formed (term_of m) ≡ well_sorted m
 unfolding term_of

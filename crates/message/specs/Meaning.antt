@@ -1,5 +1,5 @@
 -- The messages that a table's entries stand for, by number.
-use Rattle.std.specs.Prelude.{◌≡◌, ℕ, ◌+◌, ◌<◌, ◌≤◌, max, true, List, [], ◌∷◌, ◌++◌, length, get_or, slice_index_or}
+use Rattle.std.specs.Prelude.{◌≡◌, ℕ, ◌+◌, ◌<◌, ◌≤◌, max, true, List, [], ◌∷◌, ◌++◌, length, get_or, slice_index_or, All}
 use Rattle.message.specs.declared.stored.Symbol.TheVariants.{AsymmetricKey}
 use Rattle.message.specs.declared.stored.Stored.{Stored}
 use Rattle.message.specs.declared.stored.Stored.TheVariants.{Symbol, Inverse, Compound}
@@ -45,7 +45,7 @@ Sized es = (k : ℕ) → k < length es → (get_or es k no_entry).size ≡ size 
 
 -- no message is larger than the limit
 abbrev pub Small : List Message → Type 0
-Small ms = (k : ℕ) → k < length ms → size (at ms k) ≤ size_limit
+Small ms = All (λ m. size m ≤ size_limit) ms
 
 -- no message stands twice
 abbrev pub Distinct : List Message → Type 0
@@ -53,4 +53,4 @@ Distinct ms = (i j : ℕ) → (i < length ms) × (j < length ms) × (at ms i ≡
 
 -- every encryption is under a key of its sort
 abbrev pub WellSorted : List Message → Type 0
-WellSorted ms = (k : ℕ) → k < length ms → well_sorted (at ms k) ≡ true
+WellSorted ms = All (λ m. well_sorted m ≡ true) ms

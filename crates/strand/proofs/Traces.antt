@@ -1,9 +1,10 @@
 -- Traces over growing tables, what stands at a node of them, and where a value originates.
-use Rattle.std.proofs.Common.{◌≡◌, ℕ, ◌↔◌, suc, ◌<◌, ◌≤◌, List, [], ◌∷◌, map, length, get_or, is_some, Some, None, Option, refl, ap, ◌∙◌, subst, inl, inr, arith}
+use Rattle.std.proofs.Common.{◌≡◌, ℕ, ◌↔◌, ◌<◌, ◌≤◌, List, [], ◌∷◌, map, length, get_or, is_some, Some, None, Option, refl, ap, ◌∙◌, subst, inl, inr, arith}
 use Rattle.std.proofs.Math.ListN.{get_or-map}
 use Rattle.std.specs.Option.{option_map}
 use Rattle.std.specs.List.{slice_get}
 use Rattle.std.proofs.lemmas.Bool.{cases_lt, cases_order}
+use Rattle.std.proofs.lemmas.List.Elements.{All-tail}
 use Rattle.std.proofs.lemmas.List.{length-map}
 use Rattle.std.proofs.lemmas.Option.{slice_get-get_or, slice_get-map, slice_get_past}
 use Rattle.message.specs.Message.{Message}
@@ -25,8 +26,8 @@ pub trace_grown : (ms ms' : List Message) (es : List (Event ℕ)) → Within ms 
 trace_grown ms ms' [] within kept = refl
 trace_grown ms ms' (e ∷ es) within kept =
     let head : meant ms' e ≡ meant ms e =
-    ap (λ (m : Message). record { sign = e.sign; way = e.way; message = m }) (kept e.message (within 0 (omega arith))) in
-    let rest = trace_grown ms ms' es (λ k h. within (suc k) (omega (arith, h))) kept in
+    ap (λ (m : Message). record { sign = e.sign; way = e.way; message = m }) (kept e.message (within 0 e (omega arith))) in
+    let rest = trace_grown ms ms' es (All-tail (λ f. f.message < length ms) e es within) kept in
     cc
 
 -- the strands with a function put to each event

@@ -1,5 +1,5 @@
 -- The trace of a strand: its events with messages, not numbers. What its nodes carry, and where a value originates on it.
-use Rattle.std.specs.Prelude.{◌≡◌, ℕ, ◌<◌, List, map, length, Some, slice_index_or}
+use Rattle.std.specs.Prelude.{◌≡◌, ℕ, ◌<◌, List, map, length, Some, All}
 use Rattle.std.specs.List.{slice_get}
 use Rattle.message.specs.Message.{Message}
 use Rattle.message.specs.Carried.{Carried}
@@ -21,7 +21,7 @@ no_event = record { sign = Receives; way = Plain; message = 0 }
 
 -- each event's number is a message's
 abbrev pub Within : List Message → List (Event ℕ) → Type 0
-Within ms es = (k : ℕ) → k < length es → (slice_index_or es k no_event).message < length ms
+Within ms es = All (λ e. e.message < length ms) es
 
 -- there is an event at index i, and its message carries the value
 pub record Carries (t : Trace) (i : ℕ) (value : Message) : Type 0 where

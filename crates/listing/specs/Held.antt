@@ -1,4 +1,5 @@
--- A listing by what it holds.
+-- A listing by what it holds. (Functions and no `impl Model`: contracts speak of the memory too, and a table and a book rest
+-- on facts that their parts carry as values.)
 use Rattle.std.specs.Prelude.{ℕ, List, vec_items, vec_capacity}
 use Rattle.listing.specs.declared.listing.Listing.{Listing}
 

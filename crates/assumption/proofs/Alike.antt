@@ -1,6 +1,5 @@
 -- Assumptions on messages are told apart by their messages or, in one table, by the messages' numbers.
-use Rattle.std.proofs.Common.{◌≡◌, ℕ, ◌<◌, ◌≤◌, Bool, true, false, eqb, List, map, length, get_or, sym, refl, ap, ◌∙◌, arith}
-use Rattle.std.proofs.lemmas.Bool.{eqb-true, eq-eqb, true≢false, false≢true}
+use Rattle.std.proofs.Common.{◌≡◌, ℕ, ◌<◌, ◌≤◌, eqb, List, map, length, get_or, arith}
 use Rattle.listing.specs.Place.{place}
 use Rattle.listing.proofs.Places.{place_map}
 use Rattle.message.specs.Message.{Message}

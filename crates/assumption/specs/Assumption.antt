@@ -1,5 +1,5 @@
 -- Assumptions: their kinds by number, and assumptions on messages in place of their numbers.
-use Rattle.std.specs.Prelude.{◌≡◌, ℕ, ◌+◌, ◌<◌, ◌≤◌, Bool, true, false, ◌&&◌, ◌||◌, ◌↔◌, List, length, ◌==◌, nat_le, All}
+use Rattle.std.specs.Prelude.{◌≡◌, ℕ, ◌+◌, ◌≤◌, Bool, true, false, ◌&&◌, ◌||◌, ◌↔◌, List, length, ◌==◌, nat_le, All}
 use Rattle.message.specs.Message.{Message}
 use Rattle.message.specs.Meaning.{at}
 use Rattle.message.specs.Same.{same}

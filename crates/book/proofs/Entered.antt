@@ -6,17 +6,14 @@ use Rattle.message.specs.Enter.{after_enter, enter_reply}
 use Rattle.message.specs.Message.{Message}
 use Rattle.message.specs.Table.{memory_of, messages_of}
 use Rattle.message.specs.Meaning.{at}
-use Rattle.strand.specs.declared.event.Event.{Event}
 use Rattle.strand.specs.Strands.{strands_of}
 use Rattle.strand.specs.Trace.{Trace}
 use Rattle.listing.specs.Held.{entries_of}
 use Rattle.assumption.specs.declared.assumption.Assumption.{Assumption}
-use Rattle.assumption.specs.Assumption.{ValuesWithin}
 use Rattle.book.specs.declared.book.Book.{Book}
 use Rattle.book.specs.Calls.{Enter}
 use Rattle.book.specs.Entries.{with_messages}
 use Rattle.book.specs.Held.{Answered, entries}
-use Rattle.book.specs.Within.{EventsWithin}
 use Rattle.book.proofs.Entering.{assumptions_grown, grows, traces_grown}
 use Rattle.book.proofs.Records.{answered}
 

@@ -1,5 +1,5 @@
 -- A table that grows leaves strands and assumptions as they are.
-use Rattle.std.proofs.Common.{◌≡◌, ℕ, ◌<◌, ◌≤◌, Bool, true, false, cond, List, [], ◌∷◌, ◌++◌, map, length, Ok, Err, Result, refl, ap, ap₂, arith}
+use Rattle.std.proofs.Common.{◌≡◌, ℕ, ◌<◌, ◌≤◌, Bool, true, false, cond, List, [], ◌∷◌, ◌++◌, map, length, Ok, Err, Result, refl, ap₂, arith}
 use Rattle.std.proofs.lemmas.List.{length_push}
 use Rattle.std.proofs.lemmas.List.Elements.{All-head, All-tail}
 use Rattle.refusal.specs.Rows.{unless_refused}
@@ -10,7 +10,6 @@ use Rattle.strand.specs.declared.event.Event.{Event}
 use Rattle.strand.specs.Trace.{Trace, Within, trace}
 use Rattle.strand.proofs.Traces.{trace_grown}
 use Rattle.assumption.specs.declared.assumption.Assumption.{Assumption}
-use Rattle.assumption.specs.declared.assumption.Assumption.TheVariants.{NonOriginating, UniquelyOriginating, Authenticated, Confidential}
 use Rattle.assumption.specs.Assumption.{ValuesWithin, supposed, value_reach}
 use Rattle.book.specs.Within.{EventsWithin}
 

@@ -8,7 +8,6 @@ use Rattle.strand.specs.Node.{Node}
 use Rattle.strand.specs.Trace.{Trace}
 use Rattle.bundle.specs.declared.arrow.Arrow.{Arrow}
 use Rattle.assumption.specs.declared.assumption.Assumption.{Assumption}
-use Rattle.assumption.specs.declared.assumption.Assumption.TheVariants.{NonOriginating, UniquelyOriginating, Authenticated, Confidential}
 use Rattle.book.specs.Orderly.{BasicValue, IsNode, StandingArrow, StandingAssumption, StandingEvent, StandingTrace}
 
 -- each message that stands still does

@@ -1,5 +1,5 @@
 -- Opening a strand and adding an event keep the numbers in strands within those of the messages.
-use Rattle.std.proofs.Common.{ℕ, ◌<◌, List, [], ◌∷◌, ◌++◌, length, set, Ok, Err, Result, arith}
+use Rattle.std.proofs.Common.{ℕ, ◌<◌, List, [], ◌∷◌, ◌++◌, length, set, Ok, Err, Result}
 use Rattle.std.proofs.lemmas.List.Elements.{All-get_or, All-nil, All-push, All-same, All-set}
 use Rattle.refusal.specs.declared.Refusal.{Refusal}
 use Rattle.message.specs.Message.{Message}

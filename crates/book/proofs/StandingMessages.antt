@@ -5,10 +5,10 @@ use Rattle.std.proofs.lemmas.List.Elements.{All-push, Contains-append_left}
 use Rattle.std.proofs.lemmas.List.{get_or_past, length_push}
 use Rattle.std.proofs.lemmas.Bool.{and_from, and_parts, cases_lt, cond_both, eq-eqb, eqb-false, leb-false, leb-true, ltb-false, not-false, or_parts}
 use Rattle.listing.proofs.Places.{place_before}
-use Rattle.message.specs.declared.stored.Symbol.TheVariants.{AsymmetricKey, SymmetricKey, Datum, Tag}
+use Rattle.message.specs.declared.stored.Symbol.TheVariants.{AsymmetricKey}
 use Rattle.message.specs.declared.stored.Operation.TheVariants.{AsymmetricEncryption, SymmetricEncryption}
 use Rattle.message.specs.declared.stored.Sort.TheVariants.{Asymmetric}
-use Rattle.message.specs.Message.{Message, compound, inverse, inverse_key, of_sort, size, size_limit, symbol, well_sorted}
+use Rattle.message.specs.Message.{Message, compound, inverse, of_sort, size, size_limit, symbol, well_sorted}
 use Rattle.message.specs.Same.{same, true_same}
 use Rattle.message.specs.Meaning.{WellSorted, at}
 use Rattle.message.specs.Enter.{enter_rules, named, stands, unlisted, with_message, wrong_sort}

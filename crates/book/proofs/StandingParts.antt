@@ -3,8 +3,8 @@ use Rattle.std.proofs.Common.{◌≡◌, ℕ, ◌≤◌, true, false, eqb, List,
 use Rattle.std.specs.List.{All, Contains}
 use Rattle.std.proofs.lemmas.List.Elements.{All-contains, All-push, All-weaker, Contains-append_left, Contains-get_or}
 use Rattle.std.proofs.lemmas.Bool.{and_parts, cond_both, eqb-false, eqb-true, le-leb, leb-true, ltb-true, not-false, or_parts}
-use Rattle.message.specs.declared.stored.Symbol.TheVariants.{AsymmetricKey, SymmetricKey, Datum, Tag}
-use Rattle.message.specs.Message.{Message, compound, inverse, inverse_key, symbol}
+use Rattle.message.specs.declared.stored.Symbol.TheVariants.{AsymmetricKey}
+use Rattle.message.specs.Message.{Message, inverse, symbol}
 use Rattle.message.specs.Meaning.{at}
 use Rattle.message.specs.Enter.{enter_rules, missing, named, stands, unlisted, with_message}
 use Rattle.book.specs.Orderly.{StandingParts}

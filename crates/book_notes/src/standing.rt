@@ -68,11 +68,7 @@ fn arrows(rt: &impl Print, arrows: &[Arrow]) -> io::Result<()> {
     Ok(())
 }
 
-fn assumptions(
-    rt: &impl Print,
-    messages: &Messages,
-    assumptions: &[Assumption],
-) -> io::Result<()> {
+fn assumptions(rt: &impl Print, messages: &Messages, assumptions: &[Assumption]) -> io::Result<()> {
     if assumptions.is_empty() {
         return println!(rt; "no assumptions");
     }

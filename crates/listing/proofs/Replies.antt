@@ -1,12 +1,11 @@
 -- What `append` and `remove` do is what their rows say, also of a list whose entries stand for others.
-use Rattle.std.proofs.Common.{◌≡◌, ℕ, suc, Bool, true, false, leb, List, [], ◌∷◌, ◌++◌, map, length, take, drop, Ok, Err, Result, sym, ap, ◌∙◌, ap₂, inl, inr, arith}
+use Rattle.std.proofs.Common.{◌≡◌, ℕ, suc, Bool, List, [], ◌∷◌, ◌++◌, map, length, take, drop, Result, sym, ◌∙◌, ap₂, arith}
 use Rattle.std.specs.List.{remove}
 use Rattle.std.proofs.lemmas.List.{length-map, map-append, map_push, take-map, drop-map}
-use Rattle.std.proofs.lemmas.Bool.{le-leb, lt-leb, le-ltb, lt-ltb}
 use Rattle.refusal.specs.declared.Refusal.{Refusal}
 use Rattle.refusal.specs.Rows.{by_row, first_row, unless_refused}
 use Rattle.listing.specs.Place.{place}
-use Rattle.listing.specs.Listing.{Appended, Removed, append_rules, remove_rules, stands}
+use Rattle.listing.specs.Listing.{Appended, Removed, append_rules, remove_rules}
 
 module _ {X : Type 0} (same : X → X → Bool) (limit : ℕ) (xs : List X) (x : X) (after : List X) where
   pub append_replied : (r : Result ℕ Refusal) → Appended same limit xs x r after → by_row r ≡ first_row (append_rules same limit xs x) (length xs)

@@ -1,5 +1,5 @@
 -- The test for carried is the relation, and how it goes by numbers.
-use Rattle.std.proofs.Common.{◌≡◌, ℕ, ◌<◌, Bool, true, false, ◌||◌, ◌⊎◌, List, length, sym, refl, arith, ap, ◌∙◌, subst, inl, inr, ⊎_elim}
+use Rattle.std.proofs.Common.{◌≡◌, ℕ, ◌<◌, Bool, true, false, ◌||◌, ◌⊎◌, List, length, sym, arith, ap, ◌∙◌, subst, inl, inr, ⊎_elim}
 use Rattle.std.proofs.lemmas.Bool.{or_cases, or_left, or_right}
 use Rattle.message.specs.declared.stored.Stored.{Stored}
 use Rattle.message.specs.declared.stored.Stored.TheVariants.{Symbol, Inverse, Compound}

@@ -20,7 +20,9 @@ impl Strands {
     pub fn events(&self, strand: u16) -> Option<&[Event]>
         ensures { MatchOption result (length (strands_of self.now) ≤ strand) (λ es. (strand < length (strands_of self.now)) × (es.now ≡ strand_at (strands_of self.now) strand)) }
     {
-        self.strands.get(usize::from(strand)).map(ArrayVec::as_slice)
+        self.strands
+            .get(usize::from(strand))
+            .map(ArrayVec::as_slice)
     }
 
     // The event at a node.

@@ -14,6 +14,7 @@ use refusal::Refusal;
 impl<'a> Trace<'a> {
     // The index at which the message with this number originates, if it originates on this trace: the first event that
     // carries it is a transmission. (The look-up is taken by `let .. else` into row 4: a rule of the project.)
+    #[tactic(auto, using(crate::proofs::Traces::once))]
     pub fn origin(&self, value: u16) -> Result<Option<u16>, Refusal>
         ensures found { OriginOf (table_of self.now) (trace_of self.now) value result }
         ensures once { OriginatesOnce }

@@ -1,5 +1,6 @@
-// What the arguments of the calls, numbers as they come, name, or the row by which they are refused. A look-up answers an
-// `Option` that is taken by `let .. else` into row 4: a rule of the project.
+// What the arguments of the calls name, or the row by which they are refused. Arguments come as numbers, each beside the
+// others, as the public calls take them, and a look-up answers an `Option` that is taken by `let .. else` into row 4: rules
+// of the project.
 ghost use Rattle.std.specs.Prelude.{◌≡◌, ◌≢◌, ◌⊎◌, MatchResult};
 ghost use Rattle.refusal.specs.Rows.{row};
 ghost use Rattle.message.specs.Table.{messages_of};

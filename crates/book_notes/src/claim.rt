@@ -88,7 +88,7 @@ impl fmt::Display for SpelledClaim<'_> {
     }
 }
 
-// The fields of a call that assumes or releases, listed or not.
+// The fields of a call that assumes or releases. (Numbers: a call with one that is not listed is printed too.)
 #[derive(Clone, Copy)]
 pub struct Supposition {
     pub kind: u16,

@@ -39,8 +39,9 @@ fn answer(rt: &impl Print, book: &mut Book, place: usize, call: Call) -> io::Res
     }
 }
 
-// A line for each record, until the input or the reading ends. (`notes` has this loop over its own calls: one function of two
-// closures for both would be longer.)
+// A line for each record, until the input or the reading ends. (A `loop`: the place is taken
+// before the record, since it is printed where none comes too. `notes` has this loop over its own calls: one function for both
+// would take a closure to read, one to answer, and the state that they change.)
 fn read(rt: &impl Print, input: &[u8], book: &mut Book) -> io::Result<()> {
     let mut reader = Reader::new(input);
     loop {

@@ -67,7 +67,7 @@ impl fmt::Display for InWords {
     }
 }
 
-// An event as a call gives it, by numbers that need not be listed.
+// An event as a call gives it. (Numbers: a call with one that is not listed is printed too.)
 #[derive(Clone, Copy)]
 pub struct GivenEvent {
     pub sign: u16,

@@ -10,6 +10,7 @@ use refusal::Refusal;
 use strand::strand::Node;
 
 // A call with its arguments, numbers as the record gives them: one that is not listed is for the book to refuse by its row.
+// (They stand in the variants side by side, as the public calls take them: a rule of the project.)
 #[derive(Clone, Copy)]
 pub enum Call {
     Enter {

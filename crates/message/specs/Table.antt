@@ -17,7 +17,7 @@ entries_of t = held t.entries
 abbrev pub messages_of : Messages → List Message
 messages_of t = meanings (entries_of t)
 
--- how many messages there is memory for
+-- how many messages there is memory for (that a call leaves it as it was is a fact of two values, which no field can state)
 abbrev pub memory_of : Messages → ℕ
 memory_of t = room t.entries
 

@@ -12,10 +12,8 @@ impl Messages {
     pub fn carried(&self, inner: u16, outer: u16) -> Option<bool>
         ensures { CarriedBy (messages_of self.now) inner outer result }
     {
-        let count = self.len();
-        if usize::from(inner) >= count || usize::from(outer) >= count {
-            return None;
-        }
+        self.get(inner)?;
+        self.get(outer)?;
         Some(self.is_carried(inner, outer))
     }
 

@@ -1,5 +1,6 @@
-// The arguments of `enter`, numbers as they come: the message that they name, or the first row that fits them. A look-up
-// answers an `Option` that is taken by `let .. else` into row 4: a rule of the project.
+// The arguments of `enter`: the message that they name, or the first row that fits them. They come as numbers, each beside
+// the others, as the public call takes them, and a look-up answers an `Option` that is taken by `let .. else` into row 4:
+// rules of the project.
 ghost use Rattle.message.specs.Message.{form_number};
 ghost use Rattle.message.specs.Resolve.{Resolves};
 ghost use Rattle.message.specs.Table.{messages_of};

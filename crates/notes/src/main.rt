@@ -34,8 +34,9 @@ fn answer(
     }
 }
 
-// A line for each record, until the input or the reading ends. (`book_notes` has this loop over its own calls: one function of
-// two closures for both would be longer.)
+// A line for each record, until the input or the reading ends. (A `loop`: the place is taken
+// before the record, since it is printed where none comes too. `book_notes` has this loop over its own calls: one function for
+// both would take a closure to read, one to answer, and the state that they change.)
 fn read(rt: &impl Print, input: &[u8], messages: &mut Messages) -> io::Result<()> {
     let mut reader = Reader::new(input);
     loop {

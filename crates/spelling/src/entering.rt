@@ -5,7 +5,7 @@ ghost use Rattle.spelling.specs.Entering.{entering};
 use message::stored::{Form, Operation, Symbol};
 use std::fmt;
 
-// The fields of such a call, listed or not.
+// The fields of such a call. (Numbers: a call with one that is not listed is printed too.)
 #[derive(Clone, Copy)]
 pub struct Entering {
     pub form: u16,

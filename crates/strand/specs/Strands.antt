@@ -15,7 +15,7 @@ events_of s = s.items
 abbrev pub strands_of : Strands → List (List (Event ℕ))
 strands_of ss = map events_of (vec_items ss.strands)
 
--- how many strands there is memory for
+-- how many strands there is memory for (that a call leaves it as it was is a fact of two values, which no field can state)
 abbrev pub memory_of : Strands → ℕ
 memory_of ss = vec_capacity ss.strands
 

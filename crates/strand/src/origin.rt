@@ -28,8 +28,8 @@ impl<'a> Trace<'a> {
         }
     }
 
-    // The index and the sign of the first event that carries the value. (A `for`, since it answers the sign of
-    // the event with its index.)
+    // The index and the sign of the first event that carries the value. (A `for`: a `find_map` over `enumerate`
+    // would say the same in a closure.)
     fn first_carrying(&self, value: u16) -> Option<(u16, Sign)>
         requires { value < length (table_of self.now) }
         ensures decided { MatchOption result

@@ -1,4 +1,5 @@
 -- The ways out of a call: at the end of the input, inside a head, and with a record.
+-- (Tried without: the check does not find returns, and returns-in_err-body only at half its limits.)
 use Rattle.std.proofs.Common.{refl, arith, ◌≡◌, ◌-◌}
 use Rattle.std.proofs.lemmas.Grind.{common_steps}
 use Rattle.std.proofs.lemmas.List.{take_rest}

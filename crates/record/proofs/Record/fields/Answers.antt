@@ -1,4 +1,5 @@
 -- Each call of the closure gives the field of the pair at its index, and the pairs are the body.
+-- (Tried without: the check does not find returns.)
 use Rattle.std.proofs.Common.{◌≡◌, ℕ, zero, suc, ◌+◌, ◌*◌, ◌/◌, ◌%◌, ◌<◌, List, [], ◌∷◌, length, get_or, sym, refl, rules, arith}
 use denote.Param.Members.{Mut, Called}
 use Rattle.std.specs.Array.{IsFromFnResultFrom}

@@ -1,4 +1,5 @@
 -- The known bytes of the source, cut at the limit, stay when they are cut there again.
+-- (Tried without: the check does not find returns-clause-first.)
 use Rattle.std.proofs.Common.{◌≡◌, ℕ, List, [], ◌++◌, take, IfSome, Option, None, Some, arith}
 use Rattle.std.proofs.lemmas.Grind.{common_steps}
 use Rattle.std.specs.Option.{option_map}

@@ -1,4 +1,5 @@
 -- A message carries itself.
+-- (Tried without: the check does not find returns-then-inner-outer.)
 use Rattle.message.specs.Table.{messages_of}
 use Rattle.message.proofs.Carries.{tells_itself}
 use Rattle.message.proofs.table.Messages.+is_carried.Goals as goal

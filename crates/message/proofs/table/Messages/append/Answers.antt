@@ -1,4 +1,5 @@
 -- A new message is put at the end or refused, with the table's facts kept either way.
+-- (Tried without: the check does not find invariant_of-self and the two returns.)
 use Rattle.std.proofs.Common.{Ok, Err, Result, ℕ, ap, sym, ◌∙◌, subst}
 use Rattle.std.proofs.lemmas.Result.{err_from_is_err_and}
 use Rattle.refusal.specs.declared.Refusal.{Refusal}

@@ -1,4 +1,5 @@
 -- The place of an entry that stores the same is the message's number.
+-- (Tried without: the check does not find returns.)
 use Rattle.std.proofs.Common.{◌≡◌, sym, subst, rules}
 use Rattle.message.specs.Meaning.{value}
 use Rattle.message.specs.Resolve.{Found}

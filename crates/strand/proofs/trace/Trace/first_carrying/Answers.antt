@@ -1,4 +1,5 @@
 -- The first event that carries the value decides, and no value originates twice on any trace.
+-- (Tried without: the check does not find the loop and the two returns.)
 use Rattle.std.proofs.Common.{refl, below_more}
 use Rattle.std.proofs.lemmas.Bool.{false≢true}
 use Rattle.strand.proofs.Traces.{carries, decided, once, past_end}

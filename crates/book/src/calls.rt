@@ -1,7 +1,7 @@
 // The calls of a book. Each answers what is defined for what stands and its arguments, changes just what is defined, and
 // takes no memory; a refused call changes nothing. Forms, signs, ways and kinds come as numbers, each beside the others: a
-// rule of the project, since a call with a number that is not listed is one too, and is refused by its row. So is it that a
-// look-up answers an `Option`, taken by `let .. else` into row 4, and `arrow_named`, which is two of them.
+// rule of the project, since a call with a number that is not listed is one too, and is refused by its row. By another such
+// rule a `let .. else` gives row 4 where a look-up (or `arrow_named`, which is two) finds nothing.
 ghost use Rattle.book.specs.Calls.{Add, Assume, Draw, Enter, Open, Release, Strike};
 ghost use Rattle.book.specs.Held.{Answered};
 

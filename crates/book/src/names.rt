@@ -1,6 +1,6 @@
 // What the arguments of the calls name, or the row by which they are refused. Arguments come as numbers, each beside the
-// others, as the public calls take them, and a look-up answers an `Option` that is taken by `let .. else` into row 4: rules
-// of the project.
+// others, as the public calls take them, and a `let .. else` gives row 4 where a look-up finds nothing: rules of the
+// project.
 ghost use Rattle.std.specs.Prelude.{◌≡◌, ◌≢◌, ◌⊎◌, MatchResult};
 ghost use Rattle.refusal.specs.Rows.{row};
 ghost use Rattle.message.specs.Table.{messages_of};

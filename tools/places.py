@@ -170,6 +170,8 @@ def point8():
         n = len(re.findall(r"^pub \S+ : goal", path.read_text(), re.M))
         yield f"{path.relative_to(TOP)}: {n} answers"
     for path in sorted(TOP.glob("crates/*/**/*.antt")):
+        if "out" in path.relative_to(TOP).parts:
+            continue
         text = path.read_text()
         for word in ("AllByRecursion", "ContainsAt", "ByRecursion.{"):
             if word in text:

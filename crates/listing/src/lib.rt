@@ -1,4 +1,4 @@
-// Lists of entries in the order in which they came, at most a given number of them. One that stands is not put in again.
+// Lists of entries in the order in which they came, at most a given number of them.
 #![tactic(auto)]
 
 mod enter;

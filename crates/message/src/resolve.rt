@@ -1,6 +1,6 @@
 // The arguments of `enter`: the message that they name, or the first row that fits them. They come as numbers, each beside
-// the others, as the public call takes them, and a look-up answers an `Option` that is taken by `let .. else` into row 4:
-// rules of the project.
+// the others, as the public call takes them, and a `let .. else` gives row 4 where a look-up finds nothing: rules of the
+// project.
 ghost use Rattle.message.specs.Message.{form_number};
 ghost use Rattle.message.specs.Resolve.{Resolves};
 ghost use Rattle.message.specs.Table.{messages_of};

@@ -1,3 +1,4 @@
 pub mod Places
 pub mod Replies
 pub mod Each
+pub mod Single

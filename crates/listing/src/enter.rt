@@ -1,6 +1,7 @@
 // A new listing, and putting entries in and taking them out. The memory is taken when the listing is made; entering
 // takes none.
-ghost use Rattle.std.specs.Prelude.{◌≡◌, [], IfOk};
+ghost use Rattle.std.specs.Prelude.{◌≡◌, ◌<◌, [], length, IfOk};
+ghost use Rattle.std.specs.List.{remove};
 ghost use Rattle.listing.specs.Held.{entries_of, memory_of};
 ghost use Rattle.listing.specs.Listing.{Appended, Pushed, Removed};
 
@@ -52,7 +53,18 @@ impl<T: Same + Copy, const LIMIT: usize> Listing<T, LIMIT> {
         ensures memory { memory_of self.new ≡ memory_of self.old }
     {
         let place = self.place(entry).ok_or(Refusal::DoesNotStand)?;
-        self.entries.remove(place);
+        self.take_out(place);
         Ok(place)
+    }
+
+    // Takes the entry at this place out. (Not inlined: beside the search for the place, the compiler would carry what the
+    // move of those behind it needs through every turn of the search.)
+    #[inline(never)]
+    fn take_out(&mut self, place: usize)
+        requires { place < length (entries_of self.old) }
+        ensures taken { entries_of self.new ≡ remove (entries_of self.old) place }
+        ensures memory { memory_of self.new ≡ memory_of self.old }
+    {
+        self.entries.remove(place);
     }
 }

@@ -10,7 +10,7 @@ use Rattle.listing.specs.Listing.{Pushed}
 use Rattle.message.specs.declared.stored.Stored.{Stored}
 use Rattle.message.specs.declared.stored.Entry.{Entry}
 use Rattle.message.specs.declared.table.Messages.{Messages}
-use Rattle.message.specs.Message.{size, size_limit, well_sorted}
+use Rattle.message.specs.Message.{Message, size, size_limit, well_sorted}
 use Rattle.message.specs.Meaning.{at, value, meanings, reach, no_entry, InOrder, Sized, Small, Distinct, WellSorted}
 use Rattle.message.specs.Table.{entries_of, messages_of}
 use Rattle.message.specs.Resolve.{Admitted, Fits, Found}
@@ -51,26 +51,36 @@ pub record Tabled (es : List Entry) : Type 0 where
   pub once : Distinct (meanings es)
   pub sorted : WellSorted (meanings es)
 
+-- entries that mean these messages and have the facts of a table
+pub record Grown (ms : List Message) (es : List Entry) : Type 0 where
+  pub means : meanings es ≡ ms
+  pub tabled : Tabled es
+
 -- a new message put at the end of a table, or refused since the table is full
 module _ (t : Messages) (e : Entry) (F : Fits (messages_of t) e) (new : (k : ℕ) → k < length (messages_of t) → at (messages_of t) k ≡ value (messages_of t) e.stored → ⊥) (es : List Entry) where
-  grown : es ≡ entries_of t ++ e ∷ [] → meanings es ≡ messages_of t ++ value (messages_of t) e.stored ∷ []
-  grown pushed = ap meanings pushed ∙ meanings_push (entries_of t) e
+  pub grown : es ≡ entries_of t ++ e ∷ [] → Grown (messages_of t ++ value (messages_of t) e.stored ∷ []) es
+  grown pushed =
+      let means : meanings es ≡ messages_of t ++ value (messages_of t) e.stored ∷ [] = ap meanings pushed ∙ meanings_push (entries_of t) e in
+      record {
+        means = means;
+        tabled = record {
+          ordered = subst InOrder (sym pushed) (ordered_push (entries_of t) e t.ordered (let o = F.older in let l = length_meanings (entries_of t) in omega arith));
+          sized = subst Sized (sym pushed) (sized_push (entries_of t) e t.sized F.sized);
+          small = subst Small (sym means) (All-push (λ m. size m ≤ size_limit) (messages_of t) _ t.small (let s = F.sized in let l = F.small in omega arith));
+          once = subst Distinct (sym means) (distinct_push (messages_of t) _ t.once new);
+          sorted = subst WellSorted (sym means) (All-push (λ m. well_sorted m ≡ true) (messages_of t) _ t.sorted (F.sorted t.sorted));
+        };
+      }
 
   pub tabled : (r : Result ℕ Refusal) → Pushed 1024 (entries_of t) e r es → Tabled es
-  tabled (Ok k) (number, few, pushed) = record {
-    ordered = subst InOrder (sym pushed) (ordered_push (entries_of t) e t.ordered (let o = F.older in let l = length_meanings (entries_of t) in omega arith));
-    sized = subst Sized (sym pushed) (sized_push (entries_of t) e t.sized F.sized);
-    small = subst Small (sym (grown pushed)) (All-push (λ m. size m ≤ size_limit) (messages_of t) _ t.small (let s = F.sized in let l = F.small in omega arith));
-    once = subst Distinct (sym (grown pushed)) (distinct_push (messages_of t) _ t.once new);
-    sorted = subst WellSorted (sym (grown pushed)) (All-push (λ m. well_sorted m ≡ true) (messages_of t) _ t.sorted (F.sorted t.sorted));
-  }
+  tabled (Ok k) (number, few, pushed) = (grown pushed).tabled
   tabled (Err q) (eight, many, kept) =
       subst Tabled (sym kept) (record { ordered = t.ordered; sized = t.sized; small = t.small; once = t.once; sorted = t.sorted })
 
   pub admitted : (r : Result ℕ Refusal) → Pushed 1024 (entries_of t) e r es → Admitted (messages_of t) (value (messages_of t) e.stored) r (meanings es)
   admitted (Ok k) (number, few, pushed) =
       let long = length_meanings (entries_of t) in
-      added (messages_of t) _ new k (meanings es) (omega (arith, number)) (omega (arith, number, few)) (grown pushed)
+      added (messages_of t) _ new k (meanings es) (omega (arith, number)) (omega (arith, number, few)) (grown pushed).means
   admitted (Err q) (eight, many, kept) =
       let long = length_meanings (entries_of t) in
       subst (λ (fs : List Entry). Admitted (messages_of t) (value (messages_of t) e.stored) (Err q) (meanings fs)) (sym kept)

@@ -1,3 +1,4 @@
 pub mod Frames
 pub mod Partitions
+pub mod Places
 pub mod Readings

@@ -4,9 +4,9 @@ use Rattle.std.proofs.lemmas.List.{append-nil, append_assoc, length-append, leng
 use Rattle.record.specs.declared.Reader.{Reader}
 use Rattle.record.specs.declared.Record.{Record}
 use Rattle.record.specs.Frame.{Framed, framed, frame, frames}
-use Rattle.record.specs.Partition.{PlacedFrom}
 use Rattle.record.specs.Reads.{Reply, left, Read, Step, Recorded, handed, Whole, Answered, Calls, no_call, then_call, Continues}
 use Rattle.record.proofs.Frames.{Head, length_frame, begins_with}
+use Rattle.record.proofs.Places.{placed_more}
 
 -- a record is read where its head and then its body stand
 pub read : {reader : Reader} {r : Record} {reader' : Reader} {size : ℕ} → reader'.input.now ≡ reader.input.now →
@@ -25,12 +25,6 @@ divided rs reader h =
 -- as many bytes are passed as the records have
 passed : (rs : List Framed) (reader : Reader) → Recorded rs reader → length (frames rs) ≡ reader.place
 passed rs reader h = ap length h.bytes ∙ length-take-le reader.place reader.input.now reader.within
-
--- one more record, placed at the end of the others
-placed_more : (n : ℕ) (rs : List Framed) (r : Framed) → PlacedFrom n rs → r.place ≡ n + length (frames rs) → PlacedFrom n (rs ++ r ∷ [])
-placed_more n [] r h p = (omega arith, tt)
-placed_more n (q ∷ rs) r h p =
-    (h.0, placed_more (n + length (frame q)) rs r h.1 (omega (arith, length-append (frame q) (frames rs))))
 
 -- after a record is read, it stands last among those passed
 recorded_next : (rs : List Framed) (reader : Reader) (r : Record) (reader' : Reader) → Recorded rs reader →

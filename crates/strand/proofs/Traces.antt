@@ -13,9 +13,7 @@ use Rattle.message.specs.Carried.{Carried}
 use Rattle.strand.specs.declared.event.Event.{Event}
 use Rattle.strand.specs.declared.event.Sign.{Sign}
 use Rattle.strand.specs.declared.event.Sign.TheVariants.{Receives, Transmits}
-use Rattle.strand.specs.declared.trace.Trace.{Trace as Lent}
 use Rattle.strand.specs.Event.{meant}
-use Rattle.strand.specs.Lent.{table_of, trace_of}
 use Rattle.strand.specs.Seeking.{Decided, Nowhere}
 use Rattle.strand.specs.Node.{Node, event_at, is_node, strand_at}
 use Rattle.strand.specs.Trace.{Trace, Carries, OriginatesOnce, Within, no_event, trace}
@@ -49,40 +47,39 @@ abbrev pub NoneBefore : Trace → ℕ → Message → Type 0
 NoneBefore t i value = (k : ℕ) → k < i → Carries t k value → ⊥
 
 -- the event of a trace at an index
-event : Lent → ℕ → Event Message
-event t i = meant (table_of t) (get_or t.events.now i no_event)
+event : List Message → List (Event ℕ) → ℕ → Event Message
+event ms es i = meant ms (get_or es i no_event)
 
-event_there : (t : Lent) (i : ℕ) → i < length t.events.now → slice_get (trace_of t) i ≡ Some (event t i)
+event_there : (ms : List Message) (es : List (Event ℕ)) (i : ℕ) → i < length es → slice_get (trace ms es) i ≡ Some (event ms es i)
 unfolding event
-event_there t i h =
-    slice_get-map (meant (table_of t)) t.events.now i ∙ ap (option_map (meant (table_of t))) (slice_get-get_or t.events.now i no_event h)
+event_there ms es i h = slice_get-map (meant ms) es i ∙ ap (option_map (meant ms)) (slice_get-get_or es i no_event h)
 
 -- it carries what its message carries, and nothing else
-pub carries : (t : Lent) (i : ℕ) (value : Message) → i < length t.events.now →
-    Carried value (at (table_of t) (get_or t.events.now i no_event).message) ↔ Carries (trace_of t) i value
+pub carries : (ms : List Message) (es : List (Event ℕ)) (i : ℕ) (value : Message) → i < length es →
+    Carried value (at ms (get_or es i no_event).message) ↔ Carries (trace ms es) i value
 unfolding event
-carries t i value h = (
-  (λ c. record { event = event t i; there = event_there t i h; carried = c }),
+carries ms es i value h = (
+  (λ c. record { event = event ms es i; there = event_there ms es i h; carried = c }),
   (λ c.
-      let here = event_there t i h in
+      let here = event_there ms es i h in
       let found = c.there in
-      let same : c.event ≡ event t i = cc in
+      let same : c.event ≡ event ms es i = cc in
       subst (λ (e : Event Message). Carried value e.message) same c.carried),
 )
 
 -- a value that an event carries first originates there, if that event sends it, and else nowhere
-pub decided : (t : Lent) (i : ℕ) (value : Message) (s : Sign) → i < length t.events.now → (get_or t.events.now i no_event).sign ≡ s →
-    Carries (trace_of t) i value → NoneBefore (trace_of t) i value → Decided (trace_of t) value i s
+pub decided : (ms : List Message) (es : List (Event ℕ)) (i : ℕ) (value : Message) (s : Sign) → i < length es → (get_or es i no_event).sign ≡ s →
+    Carries (trace ms es) i value → NoneBefore (trace ms es) i value → Decided (trace ms es) value i s
 unfolding event
-decided t i value Transmits h sign carried before = record {
-  sent = record { event = event t i; there = event_there t i h; sign = sign };
+decided ms es i value Transmits h sign carried before = record {
+  sent = record { event = event ms es i; there = event_there ms es i h; sign = sign };
   carried = carried;
   first = before;
 }
-decided t i value Receives h sign carried before = λ j o.
+decided ms es i value Receives h sign carried before = λ j o.
     elim (cases_order j i) [
       | inl same ↦
-          let there = event_there t i h in
+          let there = event_there ms es i h in
           let found = o.sent.there in
           let sends = o.sent.sign in
           cc
@@ -91,14 +88,13 @@ decided t i value Receives h sign carried before = λ j o.
     ]
 
 -- a value that no event carries originates nowhere
-pub past_end : (t : Lent) (i : ℕ) (value : Message) → length t.events.now ≤ i →
-    NoneBefore (trace_of t) i value → Nowhere (trace_of t) value
-past_end t i value end before j o =
+pub past_end : (ms : List Message) (es : List (Event ℕ)) (value : Message) (i : ℕ) → NoneBefore (trace ms es) i value → length es ≤ i → Nowhere (trace ms es) value
+past_end ms es value i before end j o =
     elim (cases_lt j i) [
       | inl earlier ↦ before j earlier o.carried
       | inr past ↦
           let found = o.sent.there in
-          let nothing = slice_get_past (trace_of t) j (omega (arith, length-map t.events.now (meant (table_of t)), past, end)) in
+          let nothing = slice_get_past (trace ms es) j (omega (arith, length-map es (meant ms), past, end)) in
           cc
     ]
 

@@ -18,7 +18,7 @@ returns c =
       kind_is = simp take_rest at c.number-kind.ensures;
     } in
     let all : c.from.result - 0 ≡ c.number-length.result = omega arith in
-    answered (record { input = refl; replied = read refl refl refl h (omega arith) (rw all at body.0.2) })
+    answered (record { input = refl; replied = read refl refl (omega arith) h (omega arith) (rw all at body.0.2) })
 
 pub returns-in_err-body : goal.returns-in_err-body
 returns-in_err-body c = grind (arith, common_steps)

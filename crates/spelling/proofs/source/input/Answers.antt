@@ -16,6 +16,6 @@ cut_twice n (Some xs) old bs cut empty read e = again n xs old bs cut empty read
 
 pub returns-clause-first : goal.returns-clause-first
 returns-clause-first g c =
-    let read = rw (c.take.ensures.limit, c.take.ensures.inner) at c.in_ok-read_to_end.ensures.bytes in
+    let read = rw (c.limited.ensures.limit, c.limited.ensures.inner) at c.in_ok-read_to_end.ensures.bytes in
     cut_twice INPUT_LIMIT (g.R.Read.remaining c.args.source) c.new-bytes.result.items c.read_to_end.new.buf.items c.truncate.new.self.items
     c.new-bytes.ensures.items read c.truncate.ensures.items
